@@ -1,0 +1,58 @@
+-- To be believed. Document 01, "The desk and its tasks" and rule 7: when guards and offers match, and the two searches in a list of guards.
+use Prim.Native.Nat.{ℕ, suc}
+use mathlib.Core.Bool.{Bool, true, false, _&&_, _||_, cond}
+use mathlib.Core.List.{List, [], _∷_, _++_}
+use lib.ListN.{take, drop, length, replicate}
+use lib.Dec.{eqb}
+use Rattle.alternative.specs.declared.Message.{Message}
+use Rattle.alternative.specs.declared.Action.{Action}
+use Rattle.alternative.specs.declared.Action.the-variants.{Receive, Send}
+use Rattle.alternative.specs.declared.Guard.{Guard}
+use Rattle.alternative.specs.declared.GuardList.{GuardList}
+use Rattle.alternative.specs.declared.Found.{Found}
+use Rattle.alternative.specs.declared.Found.the-variants.{At, Missing}
+
+-- what stands in a slot of a guard array past the list's end
+abbrev pub blank : Guard
+blank = record { enabled = false; partner = 0; action = Receive }
+
+-- "one sends while the other receives"
+abbrev pub opposite : Action → Action → Bool
+opposite Receive Receive = false
+opposite Receive (Send m) = true
+opposite (Send m) Receive = true
+opposite (Send m) (Send k) = false
+
+-- "Two guards match if both are enabled, each names the other's party, and one sends while the other receives.": g is a guard of p, h one of q
+unfoldable pub guardsMatch : ℕ → Guard → ℕ → Guard → Bool
+guardsMatch p g q h = g .enabled && (h .enabled && (eqb (g .partner) q && (eqb (h .partner) p && opposite (g .action) (h .action))))
+
+-- a guard of the list passes the test
+unfoldable pub anyGuard : (Guard → Bool) → List Guard → Bool
+anyGuard test [] = false
+anyGuard test (g ∷ gs) = test g || anyGuard test gs
+
+-- "Two offers match if a guard of one matches a guard of the other.": gs is offered by p, hs by q
+unfoldable pub offersMatch : ℕ → List Guard → ℕ → List Guard → Bool
+offersMatch p gs q hs = anyGuard (λ g. anyGuard (guardsMatch p g q) hs) gs
+
+-- the first guard of a list that passes a test; the list's indexes start at k
+unfoldable pub firstFrom : (Guard → Bool) → List Guard → ℕ → Found
+firstFrom test [] k = Missing
+firstFrom test (g ∷ gs) k = cond (test g) (At k) (firstFrom test gs (suc k))
+
+-- rule 7: the first guard of q's list that matches p's guard g
+unfoldable pub firstMatch : ℕ → Guard → ℕ → List Guard → Found
+firstMatch p g q hs = firstFrom (guardsMatch p g q) hs 0
+
+-- the first enabled guard of a list at or after index k
+unfoldable pub nextEnabled : List Guard → ℕ → Found
+nextEnabled gs k = firstFrom (λ g. g .enabled) (drop k gs) k
+
+-- the eight slots that hold a list: its guards, then blanks
+unfoldable pub slots : List Guard → List Guard
+slots gs = take 8 (gs ++ replicate 8 blank)
+
+-- a guard list as its task lends it, of any length
+unfoldable pub lent : List Guard → GuardList
+lent gs = record { count = length gs; guards = slots gs }

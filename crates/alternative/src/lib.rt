@@ -1,0 +1,47 @@
+// Messages and guards of an alternative: when two guards match, the searches in a list of guards, and what a rendezvous hands over.
+mod exchange;
+mod floats;
+mod matching;
+
+pub use exchange::received;
+pub use exchange::sent;
+pub use floats::action_holds_nan;
+pub use floats::bits_of;
+pub use floats::float_of;
+pub use floats::is_nan;
+pub use matching::first_match;
+pub use matching::guards_match;
+pub use matching::next_enabled;
+
+// Document 01's message: nothing, a whole number, one reading, or a limit of two readings, low and high.
+pub enum Message {
+    Nothing,
+    Whole(i32),
+    Reading(f32),
+    Limit(f32, f32),
+}
+
+// What a guard does: it receives a message, or it sends the one it holds.
+pub enum Action {
+    Receive,
+    Send(Message),
+}
+
+// Document 01's guard. `partner` is the number of the process that it names.
+pub struct Guard {
+    pub enabled: bool,
+    pub partner: u8,
+    pub action: Action,
+}
+
+// A list of guards as a task offers it: how many there are, and the first eight.
+pub struct GuardList {
+    pub count: usize,
+    pub guards: [Guard; 8],
+}
+
+// What a search in a list finds: the index of a guard, or none.
+pub enum Found {
+    At(u8),
+    Missing,
+}

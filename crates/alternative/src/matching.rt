@@ -1,0 +1,67 @@
+// When two guards match, and the searches in a list of guards.
+use crate::Action;
+use crate::Found;
+use crate::Guard;
+ghost use mathlib.Core.Path.{_≡_};
+ghost use lib.ListN.{take};
+ghost use Rattle.alternative.specs.Guards.{opposite, guardsMatch, firstMatch, nextEnabled};
+
+fn are_opposite(a: Action, b: Action) -> bool
+    ensures { λ r. ⌜ r ≡ opposite a b ⌝ }
+{
+    match a {
+        Action::Receive => match b {
+            Action::Receive => false,
+            Action::Send(_) => true,
+        },
+        Action::Send(_) => match b {
+            Action::Receive => true,
+            Action::Send(_) => false,
+        },
+    }
+}
+
+// Whether guard g of process p matches guard h of process q.
+pub fn guards_match(p: u8, g: Guard, q: u8, h: Guard) -> bool
+    ensures { λ r. ⌜ r ≡ guardsMatch p g q h ⌝ }
+{
+    let a = g.action;
+    let b = h.action;
+    g.enabled & (h.enabled & ((g.partner == q) & ((h.partner == p) & are_opposite(a, b))))
+}
+
+// The first guard in the list of process q, `count` guards, that matches guard g of process p.
+pub fn first_match(p: u8, g: Guard, q: u8, list: [Guard; 8], count: usize) -> Found
+    ensures { λ r. ⌜ r ≡ firstMatch p g q (take count list) ⌝ }
+{
+    let mut k: usize = 0;
+    while k < count {
+        if 8 <= k {
+            return Found::Missing;
+        }
+        let h = list[k];
+        if guards_match(p, g, q, h) {
+            return Found::At(k as u8);
+        }
+        k = k + 1;
+    }
+    Found::Missing
+}
+
+// The first enabled guard in a list of `count` guards, at or after index `from`.
+pub fn next_enabled(list: [Guard; 8], count: usize, from: usize) -> Found
+    ensures { λ r. ⌜ r ≡ nextEnabled (take count list) from ⌝ }
+{
+    let mut k: usize = from;
+    while k < count {
+        if 8 <= k {
+            return Found::Missing;
+        }
+        let h = list[k];
+        if h.enabled {
+            return Found::At(k as u8);
+        }
+        k = k + 1;
+    }
+    Found::Missing
+}

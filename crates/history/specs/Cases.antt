@@ -1,0 +1,121 @@
+-- To be believed. Document 01, "Edges to try": the starred cases, in its order, with its numbers.
+use Prim.Native.Nat.{ℕ}
+use mathlib.Core.Bool.{Bool, true, false}
+use mathlib.Core.List.{List, [], _∷_, _++_, map}
+use mathlib.Core.Option.{some, none}
+use lib.ListN.{replicate}
+use lib.Ieee.{binary32, ofBits}
+use Rattle.alternative.specs.declared.Message.{Message}
+use Rattle.alternative.specs.declared.Message.the-variants.{Nothing, Reading}
+use Rattle.alternative.specs.declared.Action.{Action}
+use Rattle.alternative.specs.declared.Action.the-variants.{Receive, Send}
+use Rattle.alternative.specs.declared.Guard.{Guard}
+use Rattle.rendezvous.specs.declared.ProcessTable.{ProcessTable}
+use Rattle.rendezvous.specs.declared.Reply.{Reply}
+use Rattle.rendezvous.specs.Table.{mostProcesses, freshProcess, freshTable}
+use Rattle.rendezvous.specs.Calls.{create, runnable}
+use Rattle.rendezvous.specs.Numbers.{Letter, I, E, A, T, C, P, O, H, S, W, M, Said, made, ticket, place, same, outcome, movers, refusal, said}
+use Rattle.history.specs.Run.{Call, Offer, Step, Collect, replyTo}
+
+-- a line of the script program: a new table, one of the calls of demand 3, or movers
+pub data Command : Type 0 where
+  New : ℕ → Command
+  Do : Call → Command
+  Movers : Command
+
+unfoldable pub replyToCommand : ProcessTable → Command → Reply
+replyToCommand t (New n) = create n
+replyToCommand t (Do c) = replyTo t c
+replyToCommand t Movers = runnable t
+
+-- what the commands of a list say, each getting the table that the last one handed back
+unfoldable pub allSaid : ProcessTable → List Command → List Said
+allSaid t [] = []
+allSaid t (c ∷ cs) = let reply = replyToCommand t c in said (reply .answer) ∷ allSaid (reply .table) cs
+
+-- A case: a table, commands, and what they must say.
+pub record Case : Type 0 where
+  pub start : ProcessTable
+  pub commands : List Command
+  pub says : List Said
+
+abbrev pub offers : ℕ → List Guard → Command
+offers p gs = Do (Offer p gs)
+
+abbrev pub steps : ℕ → Command
+steps p = Do (Step p)
+
+abbrev pub collects : ℕ → Command
+collects p = Do (Collect p)
+
+-- guards as the script writes them: q?, q! with the bits of a reading, and -q?
+abbrev pub receive : ℕ → Guard
+receive q = record { enabled = true; partner = q; action = Receive }
+
+abbrev pub reading : ℕ → Message
+reading bits = Reading (ofBits binary32 bits)
+
+abbrev pub send : ℕ → ℕ → Guard
+send q bits = record { enabled = true; partner = q; action = Send (reading bits) }
+
+abbrev pub disabled : ℕ → Guard
+disabled q = record { enabled = false; partner = q; action = Receive }
+
+-- a fresh table of two processes, but for its next ticket
+abbrev pub withNext : ℕ → ProcessTable
+withNext next = record { n = 2; next = record { 0 = next }; processes = replicate mostProcesses freshProcess }
+
+-- process 0 offers a reading to process 1, which takes it: both collect
+abbrev pub handOver : ℕ → List Command
+handOver bits =
+    New 2 ∷ offers 0 (send 1 bits ∷ []) ∷ offers 1 (receive 0 ∷ [])
+    ∷ steps 0 ∷ steps 0 ∷ steps 0 ∷ steps 0 ∷ steps 0
+    ∷ steps 1 ∷ steps 1 ∷ steps 1 ∷ steps 1 ∷ steps 0
+    ∷ collects 1 ∷ collects 0 ∷ Movers ∷ []
+
+abbrev pub handedOver : ℕ → List Said
+handedOver bits =
+    made ∷ ticket 0 ∷ ticket 1
+    ∷ place A (some 0) ∷ place P none ∷ place O none ∷ place H none ∷ place W none
+    ∷ place A (some 0) ∷ place T (some 0) ∷ place C (some 0) ∷ place M none ∷ place M none
+    ∷ outcome 0 0 (reading bits) ∷ outcome 0 1 Nothing ∷ movers 0 ∷ []
+
+abbrev pub case : List Command → List Said → Case
+case commands says = record { start = freshTable 0; commands = commands; says = says }
+
+unfoldable pub starred : List Case
+starred =
+    -- n 1 gives 1; n 2 and 32 are made; n 33 gives 1
+    case (New 1 ∷ []) (refusal 1 ∷ [])
+    ∷ case (New 2 ∷ []) (made ∷ [])
+    ∷ case (New 32 ∷ []) (made ∷ [])
+    ∷ case (New 33 ∷ []) (refusal 1 ∷ [])
+    -- no guards gives 3; nine gives 3
+    ∷ case (New 2 ∷ offers 0 [] ∷ []) (made ∷ refusal 3 ∷ [])
+    ∷ case (New 2 ∷ offers 0 (replicate 9 (receive 1)) ∷ []) (made ∷ refusal 3 ∷ [])
+    -- a guard to oneself gives 4, also while busy
+    ∷ case (New 2 ∷ offers 0 (receive 0 ∷ []) ∷ []) (made ∷ refusal 4 ∷ [])
+    ∷ case (New 2 ∷ offers 0 (receive 1 ∷ []) ∷ offers 0 (receive 0 ∷ []) ∷ []) (made ∷ ticket 0 ∷ refusal 4 ∷ [])
+    -- r7fc00000 gives 5; r80000000 arrives as r80000000
+    ∷ case (New 2 ∷ offers 0 (send 1 0x7fc00000 ∷ []) ∷ []) (made ∷ refusal 5 ∷ [])
+    ∷ case (handOver 0x80000000) (handedOver 0x80000000)
+    -- only disabled guards: 6; a second offer while open: 11
+    ∷ case (New 2 ∷ offers 0 (disabled 1 ∷ disabled 1 ∷ []) ∷ []) (made ∷ refusal 6 ∷ [])
+    ∷ case (New 2 ∷ offers 0 (receive 1 ∷ []) ∷ offers 0 (receive 1 ∷ []) ∷ []) (made ∷ ticket 0 ∷ refusal 11 ∷ [])
+    -- next ticket 4,294,967,294 is given out; at 4,294,967,295: 12
+    ∷ record { start = withNext 4294967294; commands = offers 0 (receive 1 ∷ []) ∷ []; says = ticket 4294967294 ∷ [] }
+    ∷ record { start = withNext 4294967295; commands = offers 0 (receive 1 ∷ []) ∷ []; says = refusal 12 ∷ [] }
+    -- parties 0 and 1, one guard each, at A on each other, tickets 0 and 1: a step of 0 changes nothing; a step of 1 puts it to S; then a step of 0 goes to P
+    ∷ case
+    (New 2 ∷ offers 0 (send 1 0x40970a3d ∷ []) ∷ offers 1 (receive 0 ∷ []) ∷ steps 0 ∷ steps 1 ∷ steps 0 ∷ steps 1 ∷ steps 0 ∷ [])
+    (made ∷ ticket 0 ∷ ticket 1 ∷ place A (some 0) ∷ place A (some 0) ∷ same ∷ place S none ∷ place P none ∷ [])
+    -- the session, whose reading is 4.72
+    ∷ case (handOver 0x40970a3d) (handedOver 0x40970a3d)
+    ∷ []
+
+-- what the definitions say in each case, and what they must say
+abbrev pub saidInCases : List Case → List (List Said)
+saidInCases = map (λ c. allSaid (c .start) (c .commands))
+
+abbrev pub dueInCases : List Case → List (List Said)
+dueInCases = map (λ c. c .says)

@@ -1,0 +1,4 @@
+pub mod Run
+pub mod Book
+pub mod Demand3
+pub mod Cases

@@ -1,0 +1,6 @@
+pub mod Table
+pub mod Rules
+pub mod WellFormed
+pub mod Refusals
+pub mod Calls
+pub mod Numbers

@@ -1,0 +1,24 @@
+//! A plain model of the desk through which the tasks of one logger meet.
+//!
+//! It is written from the scope document alone, with ordinary vectors and
+//! changes in place, so that it can be compared with any other program.
+
+pub mod book;
+pub mod call;
+pub mod desk;
+mod form;
+pub mod guard;
+pub mod line;
+pub mod message;
+pub mod place;
+pub mod refusal;
+mod rules;
+pub mod script;
+
+pub use book::{Book, Entry, Meeting, Stuck};
+pub use call::Call;
+pub use desk::{Desk, OpenOffer, Outcome, Party, Ticket};
+pub use guard::{Action, Guard};
+pub use message::Message;
+pub use place::{Answer, IndexedMessage, Place, Word};
+pub use refusal::Refusal;

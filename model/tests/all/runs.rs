@@ -1,0 +1,233 @@
+//! Many random lists of calls, each compared with the book along the run.
+
+use crate::tools::{fresh, Xorshift};
+use model::{Action, Answer, Book, Call, Desk, Entry, Guard, Message, Place, Refusal, Ticket};
+use std::collections::BTreeSet;
+
+/// A desk with its book, and what the run has seen so far.
+struct Run {
+    desk: Desk,
+    book: Book,
+    met_tickets: BTreeSet<Ticket>,
+    rests: usize,
+    collections: usize,
+}
+
+/// What a call gave.
+enum Given {
+    Ticket(Ticket),
+    Step(Option<Answer>),
+    Outcome(model::Outcome),
+    Movers,
+}
+
+fn make(desk: &mut Desk, call: &Call) -> Result<Given, Refusal> {
+    match call {
+        Call::Offer { party, guards } => desk.offer(*party, guards).map(Given::Ticket),
+        Call::Step { party } => desk.step(*party).map(Given::Step),
+        Call::Collect { party } => desk.collect(*party).map(Given::Outcome),
+        Call::Movers => desk.movers().map(|_| Given::Movers),
+    }
+}
+
+impl Run {
+    fn new(n: usize) -> Run {
+        Run {
+            desk: fresh(n),
+            book: Book::new(),
+            met_tickets: BTreeSet::new(),
+            rests: 0,
+            collections: 0,
+        }
+    }
+
+    /// Makes one call on the desk, feeds the book and compares the two.
+    fn call(&mut self, call: &Call) {
+        let before = self.desk.clone();
+        let given = make(&mut self.desk, call);
+        let answer = match given {
+            Ok(Given::Step(answer)) => answer,
+            _ => None,
+        };
+        let entry = match self.book.feed(call, given.is_err(), answer) {
+            Ok(entry) => entry,
+            Err(stuck) => panic!("the book is stuck: {stuck}"),
+        };
+        match given {
+            Err(refusal) => {
+                assert_ne!(refusal, Refusal::OutOfForm, "a reached desk is in form");
+                assert_eq!(self.desk, before);
+                assert_eq!(entry, Entry::Unchanged);
+            }
+            Ok(given) => self.compare(given, entry, &before),
+        }
+        assert_eq!(self.desk.open_offers(), self.book.open_offers());
+    }
+
+    /// Compares what an accepted call gave with what the book entered.
+    fn compare(&mut self, given: Given, entry: Entry, before: &Desk) {
+        match given {
+            Given::Ticket(ticket) => assert_eq!(entry, Entry::Opened(ticket)),
+            Given::Outcome(outcome) => {
+                self.collections += 1;
+                assert_eq!(entry, Entry::Given(outcome));
+            }
+            Given::Step(answer) => {
+                assert_eq!(answer.is_none(), self.desk == *before);
+                self.note_meeting(answer, entry);
+            }
+            Given::Movers => assert_eq!(self.desk, *before),
+        }
+    }
+
+    fn note_meeting(&mut self, answer: Option<Answer>, entry: Entry) {
+        let committed = answer.is_some_and(|answer| answer.letter == 'C');
+        let Entry::Met(meeting) = entry else {
+            assert!(!committed && entry == Entry::Unchanged);
+            return;
+        };
+        assert!(committed);
+        assert_eq!(self.book.meetings().last(), Some(&meeting));
+        for ticket in [meeting.p_ticket, meeting.q_ticket] {
+            assert!(self.met_tickets.insert(ticket), "{ticket:?} met twice");
+        }
+    }
+
+    /// At rest no two open offers match, and nobody is on the way.
+    fn check_rest(&mut self) {
+        self.rests += 1;
+        let offers = self.desk.open_offers();
+        for (index, one) in offers.iter().enumerate() {
+            for other in &offers[index + 1..] {
+                assert!(!one.matches(other), "{one:?} and {other:?}");
+            }
+        }
+        for record in &self.desk.parties {
+            let place = record.place;
+            assert!(matches!(
+                place,
+                Place::Idle | Place::Met(_) | Place::Waiting
+            ));
+        }
+    }
+
+    /// Steps movers drawn at random until the desk is at rest.
+    fn settle(&mut self, random: &mut Xorshift) {
+        for _ in 0..1_000_000 {
+            let movers = self.desk.movers().expect("a reached desk is in form");
+            if movers == 0 {
+                assert!(self.desk.at_rest());
+                return self.check_rest();
+            }
+            let parties: Vec<usize> = (0..32).filter(|p| movers >> p & 1 == 1).collect();
+            let party = parties[random.below(parties.len())];
+            self.call(&Call::Step { party });
+        }
+        panic!("the desk does not come to rest");
+    }
+}
+
+fn random_message(random: &mut Xorshift) -> Message {
+    // Random bits hold a NaN now and then; the offer is then refused.
+    match random.below(4) {
+        0 => Message::Nothing,
+        1 => Message::Whole(random.bits() as i32),
+        2 => Message::Reading(f32::from_bits(random.bits())),
+        _ => Message::Limit {
+            low: f32::from_bits(random.bits()),
+            high: f32::from_bits(random.bits()),
+        },
+    }
+}
+
+fn random_guard(random: &mut Xorshift, party: usize, n: usize) -> Guard {
+    let partner = match random.below(60) {
+        0 => party,
+        1 => n + random.below(250),
+        _ => (party + 1 + random.below(n - 1)) % n,
+    };
+    let action = match random.one_in(2) {
+        true => Action::Receive,
+        false => Action::Send(random_message(random)),
+    };
+    let enabled = !random.one_in(6);
+    Guard {
+        enabled,
+        partner,
+        action,
+    }
+}
+
+fn random_call(random: &mut Xorshift, n: usize) -> Call {
+    let party = match random.below(50) {
+        0 => n + random.below(250),
+        _ => random.below(n),
+    };
+    match random.below(20) {
+        0..=3 => {
+            let count = match random.below(12) {
+                0 => random.below(12),
+                1..=4 => 1 + random.below(8),
+                _ => 1 + random.below(3),
+            };
+            let owner = party % n;
+            let guards = (0..count).map(|_| random_guard(random, owner, n));
+            let guards = guards.collect();
+            Call::Offer { party, guards }
+        }
+        4..=5 => Call::Collect { party },
+        6 => Call::Movers,
+        _ => Call::Step { party },
+    }
+}
+
+fn run_once(random: &mut Xorshift, n: usize, calls: usize) -> Run {
+    let mut run = Run::new(n);
+    for _ in 0..4 {
+        for _ in 0..calls {
+            let call = random_call(random, n);
+            run.call(&call);
+            if matches!(call, Call::Movers) && run.desk.at_rest() {
+                run.check_rest();
+            }
+        }
+        run.settle(random);
+    }
+    run
+}
+
+/// Runs the seeds; the counts make sure that the comparison is not empty.
+fn check_runs(seeds: std::ops::Range<u64>, parties: std::ops::RangeInclusive<usize>, calls: usize) {
+    let runs = (seeds.end - seeds.start) as usize;
+    let (mut meetings, mut rests, mut collections) = (0, 0, 0);
+    for seed in seeds {
+        let mut random = Xorshift::new(seed * 0x9e37_79b9 + 1);
+        // The first words after a small seed are small too.
+        for _ in 0..20 {
+            random.word();
+        }
+        let n = parties.start() + random.below(parties.end() - parties.start() + 1);
+        let run = run_once(&mut random, n, calls);
+        meetings += run.book.meetings().len();
+        rests += run.rests;
+        collections += run.collections;
+    }
+    // Each run comes to rest four times. With so many calls a run should meet
+    // and collect at least now and then.
+    assert!(rests >= 4 * runs && meetings > runs && collections > runs);
+}
+
+#[test]
+fn random_runs_of_few_parties_agree_with_the_book() {
+    check_runs(1..201, 2..=4, 100);
+}
+
+#[test]
+fn random_runs_of_some_parties_agree_with_the_book() {
+    check_runs(1000..1040, 5..=9, 200);
+}
+
+#[test]
+fn random_runs_of_many_parties_agree_with_the_book() {
+    check_runs(2000..2006, 30..=32, 400);
+}

@@ -1,0 +1,84 @@
+//! Small helpers that the tests share.
+
+use model::script::run;
+use model::{Action, Desk, Guard, IndexedMessage, Message};
+
+/// A small random generator with a fixed seed, so that every run is the same.
+pub struct Xorshift(u64);
+
+impl Xorshift {
+    pub fn new(seed: u64) -> Xorshift {
+        assert_ne!(seed, 0, "a zero word would stay zero");
+        Xorshift(seed)
+    }
+
+    pub fn word(&mut self) -> u64 {
+        self.0 ^= self.0 << 13;
+        self.0 ^= self.0 >> 7;
+        self.0 ^= self.0 << 17;
+        self.0
+    }
+
+    /// A number below `bound`.
+    pub fn below(&mut self, bound: usize) -> usize {
+        ((self.word() >> 16) % bound as u64) as usize
+    }
+
+    pub fn one_in(&mut self, count: usize) -> bool {
+        self.below(count) == 0
+    }
+
+    pub fn bits(&mut self) -> u32 {
+        (self.word() >> 20) as u32
+    }
+}
+
+pub fn receive(partner: usize) -> Guard {
+    Guard {
+        enabled: true,
+        partner,
+        action: Action::Receive,
+    }
+}
+
+pub fn send(partner: usize, message: Message) -> Guard {
+    Guard {
+        enabled: true,
+        partner,
+        action: Action::Send(message),
+    }
+}
+
+pub fn disabled(guard: Guard) -> Guard {
+    Guard {
+        enabled: false,
+        ..guard
+    }
+}
+
+pub fn indexed(index: usize, message: Message) -> IndexedMessage {
+    IndexedMessage { index, message }
+}
+
+pub fn fresh(n: usize) -> Desk {
+    Desk::new(n).expect("2 to 32 parties are made")
+}
+
+/// Steps one party and gives the answers as the script writes them.
+pub fn steps(desk: &mut Desk, party: usize, count: usize) -> Vec<String> {
+    (0..count)
+        .map(|_| match desk.step(party).expect("a step is taken") {
+            Some(place) => place.to_string(),
+            None => "=".to_string(),
+        })
+        .collect()
+}
+
+/// Runs a script given as pairs of an input line and its output line.
+pub fn check_script(pairs: &[(&str, &str)]) {
+    let lines = |pick: fn(&(&str, &str)) -> String| pairs.iter().map(pick).collect::<String>();
+    let input = lines(|pair| format!("{}\n", pair.0));
+    let expected = lines(|pair| format!("{}\n", pair.1));
+    let output = String::from_utf8(run(input.as_bytes())).expect("the output is text");
+    assert_eq!(output, expected, "for the input\n{input}");
+}
