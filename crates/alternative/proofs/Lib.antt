@@ -1,2 +1,2 @@
-pub mod First
 pub mod Nan
+pub mod Rest

@@ -1,4 +1,7 @@
 // Messages and guards of an alternative: when two guards match, the searches in a list of guards, and what a rendezvous hands over.
+ghost use mathlib.Core.Path.{_≡_};
+ghost use Rattle.alternative.specs.Guards.{blank};
+
 mod exchange;
 mod floats;
 mod matching;
@@ -9,6 +12,7 @@ pub use floats::action_holds_nan;
 pub use floats::bits_of;
 pub use floats::float_of;
 pub use floats::is_nan;
+pub use matching::any_enabled;
 pub use matching::first_match;
 pub use matching::guards_match;
 pub use matching::next_enabled;
@@ -38,6 +42,17 @@ pub struct Guard {
 pub struct GuardList {
     pub count: usize,
     pub guards: [Guard; 8],
+}
+
+// What stands in a slot past a list's end.
+pub fn blank_guard() -> Guard
+    ensures { λ r. ⌜ r ≡ blank ⌝ }
+{
+    Guard {
+        enabled: false,
+        partner: 0,
+        action: Action::Receive,
+    }
 }
 
 // What a search in a list finds: the index of a guard, or none.

@@ -4,7 +4,7 @@ use crate::Found;
 use crate::Guard;
 ghost use mathlib.Core.Path.{_≡_};
 ghost use lib.ListN.{take};
-ghost use Rattle.alternative.specs.Guards.{opposite, guardsMatch, firstMatch, nextEnabled};
+ghost use Rattle.alternative.specs.Guards.{opposite, guardsMatch, anyGuard, firstMatch, nextEnabled};
 
 fn are_opposite(a: Action, b: Action) -> bool
     ensures { λ r. ⌜ r ≡ opposite a b ⌝ }
@@ -64,4 +64,22 @@ pub fn next_enabled(list: [Guard; 8], count: usize, from: usize) -> Found
         k = k + 1;
     }
     Found::Missing
+}
+
+// Whether a list of `count` guards has an enabled one.
+pub fn any_enabled(list: [Guard; 8], count: usize) -> bool
+    ensures { λ r. ⌜ r ≡ anyGuard (λ g. g .enabled) (take count list) ⌝ }
+{
+    let mut k: usize = 0;
+    while k < count {
+        if 8 <= k {
+            return false;
+        }
+        let h = list[k];
+        if h.enabled {
+            return true;
+        }
+        k = k + 1;
+    }
+    false
 }

@@ -1,1 +1,4 @@
+pub mod Below
+pub mod Forms
+pub mod Lengths
 pub mod Verdicts

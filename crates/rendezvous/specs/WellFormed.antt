@@ -11,7 +11,8 @@ use Rattle.rendezvous.specs.declared.Place.{Place}
 use Rattle.rendezvous.specs.declared.Place.the-variants.{Idle, Entering, Scanning, Trying, Committed, Posting, Opening, Showing, Asleep, Waiting, Met}
 use Rattle.rendezvous.specs.declared.Process.{Process}
 use Rattle.rendezvous.specs.declared.ProcessTable.{ProcessTable}
-use Rattle.rendezvous.specs.Table.{mostProcesses, mostGuards, ownList, postedList, ownGuard, process}
+use Rattle.rendezvous.specs.Table.{mostProcesses, mostGuards, process}
+use Rattle.rendezvous.specs.Rules.{partnerOf}
 
 -- every guard of a list passes a test; every number below n does
 unfoldable pub allGuards : (Guard → Bool) → List Guard → Bool
@@ -34,29 +35,36 @@ partnerFits n p g = not (eqb (g .partner) p) && ltb (g .partner) n
 unfoldable pub listFits : ℕ → ℕ → ℕ → List Guard → Bool
 listFits n p count guards = leb count mostGuards && allGuards (partnerFits n p) (take count guards)
 
--- "the index in .. a signal .. has no guard in that party's own list"
-abbrev pub signalFits : Process → Signal → Bool
-signalFits x Absent = true
-signalFits x (Present j m) = ltb j (x .count)
+-- "the index in .. a signal .. has no guard in that party's own list", a list of count guards
+abbrev pub signalFits : ℕ → Signal → Bool
+signalFits count Absent = true
+signalFits count (Present j m) = ltb j count
 
--- "the index in A, T, C, .. or an outcome has no guard in that party's own list (not the posted one), or a kept index none in the partner's posted list"
-abbrev pub placeFits : ProcessTable → Process → Place → Bool
-placeFits t x (Scanning i) = ltb i (x .count)
-placeFits t x (Trying i) = ltb i (x .count)
-placeFits t x (Committed i j) = ltb i (x .count) && ltb j (process t (ownGuard x i .partner) .altcount)
-placeFits t x (Met i m) = ltb i (x .count)
-placeFits t x Idle = true
-placeFits t x Entering = true
-placeFits t x Posting = true
-placeFits t x Opening = true
-placeFits t x Showing = true
-placeFits t x Asleep = true
-placeFits t x Waiting = true
+-- "the index in A, T, C, .. or an outcome has no guard in that party's own list (not the posted one), or a kept index none in the partner's posted list":
+-- lists of count and of altcount guards
+abbrev pub placeFits : ℕ → ℕ → Place → Bool
+placeFits count altcount (Scanning i) = ltb i count
+placeFits count altcount (Trying i) = ltb i count
+placeFits count altcount (Committed i j) = ltb i count && ltb j altcount
+placeFits count altcount (Met i m) = ltb i count
+placeFits count altcount Idle = true
+placeFits count altcount Entering = true
+placeFits count altcount Posting = true
+placeFits count altcount Opening = true
+placeFits count altcount Showing = true
+placeFits count altcount Asleep = true
+placeFits count altcount Waiting = true
 
-unfoldable pub processFits : ProcessTable → ℕ → Bool
-processFits t p =
-    let x = process t p in
-    listFits (t .n) p (x .count) (x .guards) && (listFits (t .n) p (x .altcount) (x .altlist) && (signalFits x (x .signal) && placeFits t x (x .place)))
+-- process p with record x, whose partner at A, T or C has posted altcount guards
+unfoldable pub processFits : ℕ → ℕ → Process → ℕ → Bool
+processFits n p x altcount =
+    listFits n p (x .count) (x .guards)
+    && (listFits n p (x .altcount) (x .altlist)
+    && (signalFits (x .count) (x .signal)
+    && placeFits (x .count) altcount (x .place)))
+
+unfoldable pub fitsAt : ProcessTable → ℕ → Bool
+fitsAt t p = let x = process t p in processFits (t .n) p x (process t (partnerOf x) .altcount)
 
 unfoldable pub wellFormed : ProcessTable → Bool
-wellFormed t = countFits (t .n) && allBelow (processFits t) (t .n)
+wellFormed t = countFits (t .n) && allBelow (fitsAt t) (t .n)

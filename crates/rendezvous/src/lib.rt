@@ -2,6 +2,11 @@
 use alternative::Guard;
 use alternative::Message;
 
+mod create;
+mod offer;
+mod places;
+mod well_formed;
+
 // The most processes that a table holds, and the transaction number that is never given out.
 pub const MOST_PROCESSES: u8 = 32;
 

@@ -1,0 +1,1 @@
+// Offers of a list that is given by value.
