@@ -1,2 +1,3 @@
 pub mod Nan
 pub mod Rest
+pub mod Slots

@@ -4,6 +4,7 @@ ghost use Rattle.alternative.specs.Guards.{blank};
 
 mod exchange;
 mod floats;
+mod lists;
 mod matching;
 
 pub use exchange::received;
@@ -12,6 +13,7 @@ pub use floats::action_holds_nan;
 pub use floats::bits_of;
 pub use floats::float_of;
 pub use floats::is_nan;
+pub use lists::blanked;
 pub use matching::any_enabled;
 pub use matching::first_match;
 pub use matching::guards_match;

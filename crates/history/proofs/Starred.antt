@@ -4,11 +4,11 @@ use lib.Ieee.{ofBits}
 use Rattle.alternative.specs.Guards.{guardsMatch, anyGuard, firstFrom, firstMatch, nextEnabled, slots, lent}
 use Rattle.rendezvous.specs.Rules.{scanFrom, meet, rule}
 use Rattle.rendezvous.specs.WellFormed.{allGuards, allBelow, countFits, partnerFits, listFits, processFits, fitsAt, wellFormed}
-use Rattle.rendezvous.specs.Refusals.{requireGuards, createVerdict, tableVerdict, processVerdict, offerVerdict}
+use Rattle.rendezvous.specs.Refusals.{requireGuards, createVerdict, tableVerdict, processVerdict, listVerdict, stateVerdict, offerVerdict}
 use Rattle.rendezvous.specs.Calls.{create, entering, offered, offer, effectOn, stepped, step, collect, setBelow, runnableSet, runnable}
 use Rattle.history.specs.Run.{replyTo}
 use Rattle.history.specs.Cases.{replyToCommand, allSaid, starred, saidInCases, dueInCases}
 
 pub starred-hold : saidInCases starred ≡ dueInCases starred
-unfolding guardsMatch anyGuard firstFrom firstMatch nextEnabled slots lent scanFrom meet rule allGuards allBelow countFits partnerFits listFits processFits fitsAt wellFormed requireGuards createVerdict tableVerdict processVerdict offerVerdict create entering offered offer effectOn stepped step collect setBelow runnableSet runnable replyTo replyToCommand allSaid starred ofBits lib.Ieee.isNan
+unfolding guardsMatch anyGuard firstFrom firstMatch nextEnabled slots lent scanFrom meet rule allGuards allBelow countFits partnerFits listFits processFits fitsAt wellFormed requireGuards createVerdict tableVerdict processVerdict listVerdict stateVerdict offerVerdict create entering offered offer effectOn stepped step collect setBelow runnableSet runnable replyTo replyToCommand allSaid starred ofBits lib.Ieee.isNan
 starred-hold = refl

@@ -1,4 +1,5 @@
 pub mod Below
 pub mod Forms
 pub mod Lengths
+pub mod Offers
 pub mod Verdicts

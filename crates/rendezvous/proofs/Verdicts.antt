@@ -1,6 +1,6 @@
--- What a call that is not turned away has passed.
+-- What a call that is not turned away has passed, and that tests in order either hand on to what follows or stop there.
 use Prim.Native.Nat.{ℕ, _≤_, _<_}
-use mathlib.Core.Path.{_≡_, refl}
+use mathlib.Core.Path.{_≡_, refl, sym, _∙_}
 use mathlib.Core.Bool.{Bool, true, false, not, _&&_}
 use mathlib.Core.List.{List, [], _∷_}
 use mathlib.Core.Logic.{_⊎_, inl, inr}
@@ -14,26 +14,26 @@ use Rattle.alternative.specs.Guards.{anyGuard}
 use Rattle.alternative.specs.Exchange.{actionHoldsNan}
 use Rattle.rendezvous.specs.declared.ProcessTable.{ProcessTable}
 use Rattle.rendezvous.specs.declared.Refusal.{Refusal}
-use Rattle.rendezvous.specs.declared.Refusal.the-variants.{ProcessCount, Malformed, NoSuchProcess, GuardCount, Partner, NotANumber, NoneEnabled, NotIdle, LastTransaction}
+use Rattle.rendezvous.specs.declared.Refusal.the-variants.{Malformed, NoSuchProcess, GuardCount, Partner, NotANumber, NoneEnabled, NotIdle, LastTransaction}
 use Rattle.rendezvous.specs.declared.Verdict.{Verdict}
 use Rattle.rendezvous.specs.declared.Verdict.the-variants.{Accepted, Refused}
 use Rattle.rendezvous.specs.Table.{mostGuards, lastTransaction, process}
-use Rattle.rendezvous.specs.WellFormed.{allGuards, countFits, partnerFits, wellFormed}
-use Rattle.rendezvous.specs.Refusals.{require, isIdle, requireGuards, createVerdict, tableVerdict, processVerdict, offerVerdict}
+use Rattle.rendezvous.specs.WellFormed.{allGuards, partnerFits, wellFormed}
+use Rattle.rendezvous.proofs.Forms.{and-parts}
+use Rattle.rendezvous.specs.Refusals.{require, isIdle, requireGuards, processVerdict, listVerdict, stateVerdict, offerVerdict}
 
 -- a verdict accepts, or refuses by some refusal
 pub either : (v : Verdict) → (v ≡ Accepted) ⊎ ((r : Refusal) × (v ≡ Refused r))
 either Accepted = inl refl
 either (Refused r) = inr (r, refl)
 
+never : (r : Refusal) → Accepted ≡ Refused r → ⊥
+never r e = let z : _≡_ {A = ℕ} 0 1 = cc in omega arith
+
 -- a test that was passed, and the rest
 pub passed : (b : Bool) (r : Refusal) (rest : Verdict) → require b r rest ≡ Accepted → (b ≡ true) × (rest ≡ Accepted)
 passed true r rest e = (refl, e)
-passed false r rest e = let z : _≡_ {A = ℕ} 0 1 = cc in absurd (omega arith)
-
-pub and-parts : (a b : Bool) → (a && b) ≡ true → (a ≡ true) × (b ≡ true)
-and-parts true b e = (refl, e)
-and-parts false b e = let z : _≡_ {A = ℕ} 0 1 = cc in absurd (omega arith)
+passed false r rest e = absurd (never r (sym e))
 
 pub guards-passed : (n p : ℕ) (gs : List Guard) (rest : Verdict) → requireGuards n p gs rest ≡ Accepted → (allGuards (partnerFits n p) gs ≡ true) × (rest ≡ Accepted)
 unfolding requireGuards allGuards
@@ -66,7 +66,7 @@ pub record Admitted (t : ProcessTable) (p : ℕ) (list : GuardList) : Type 0 whe
   pub left : t .next .0 < lastTransaction
 
 pub offer-passed : (t : ProcessTable) (p : ℕ) (list : GuardList) → offerVerdict t p list ≡ Accepted → Admitted t p list
-unfolding offerVerdict
+unfolding offerVerdict listVerdict stateVerdict
 offer-passed t p list e =
     let a = passed (wellFormed t) Malformed _ e in
     let b = passed (ltb p (t .n)) NoSuchProcess _ (a .1) in
@@ -86,3 +86,51 @@ offer-passed t p list e =
       idle = g .0;
       left = ltb-true (t .next .0) lastTransaction (h .0);
     }
+
+-- Tests in order: all hand on to the verdict that follows, or one stops there whatever follows.
+pub data Tests (F : Verdict → Verdict) : Type 0 where
+  pass : ((rest : Verdict) → F rest ≡ rest) → Tests F
+  stop : (r : Refusal) → ((rest : Verdict) → F rest ≡ Refused r) → Tests F
+
+require-tests : (b : Bool) (r : Refusal) → Tests (require b r)
+require-tests true r = pass (λ rest. refl)
+require-tests false r = stop r (λ rest. refl)
+
+then-tests : (F G : Verdict → Verdict) → Tests F → Tests G → Tests (λ rest. F (G rest))
+then-tests F G (pass f) (pass g) = pass (λ rest. f (G rest) ∙ g rest)
+then-tests F G (pass f) (stop r g) = stop r (λ rest. f (G rest) ∙ g rest)
+then-tests F G (stop r f) g = stop r (λ rest. f (G rest))
+
+guards-tests : (n p : ℕ) (gs : List Guard) → Tests (requireGuards n p gs)
+unfolding requireGuards
+guards-tests n p [] = pass (λ rest. refl)
+guards-tests n p (g ∷ gs) =
+    then-tests _ _ (require-tests (partnerFits n p g) Partner)
+    (then-tests _ _ (require-tests (not (actionHoldsNan (g .action))) NotANumber) (guards-tests n p gs))
+
+list-tests : (n p : ℕ) (list : GuardList) → Tests (listVerdict n p list)
+unfolding listVerdict
+list-tests n p list =
+    then-tests _ _ (require-tests (leb 1 (list .count) && leb (list .count) mostGuards) GuardCount)
+    (then-tests _ _ (guards-tests n p (take (list .count) (list .guards)))
+    (require-tests (anyGuard (λ g. g .enabled) (take (list .count) (list .guards))) NoneEnabled))
+
+all-pass : (F : Verdict → Verdict) → Tests F → F Accepted ≡ Accepted → (rest : Verdict) → F rest ≡ rest
+all-pass F (pass f) e rest = f rest
+all-pass F (stop r f) e rest = absurd (never r (sym e ∙ f Accepted))
+
+one-stops : (F : Verdict → Verdict) → Tests F → (r : Refusal) → F Accepted ≡ Refused r → (rest : Verdict) → F rest ≡ Refused r
+one-stops F (pass f) r e rest = absurd (never r (sym (f Accepted) ∙ e))
+one-stops F (stop q f) r e rest = f rest ∙ sym (f Accepted) ∙ e
+
+pub guards-pass : (n p : ℕ) (gs : List Guard) (rest : Verdict) → Accepted ≡ requireGuards n p gs Accepted → requireGuards n p gs rest ≡ rest
+guards-pass n p gs rest e = all-pass (requireGuards n p gs) (guards-tests n p gs) (sym e) rest
+
+pub guards-stop : (n p : ℕ) (gs : List Guard) (r : Refusal) (rest : Verdict) → Refused r ≡ requireGuards n p gs Accepted → requireGuards n p gs rest ≡ Refused r
+guards-stop n p gs r rest e = one-stops (requireGuards n p gs) (guards-tests n p gs) r (sym e) rest
+
+pub list-pass : (n p : ℕ) (list : GuardList) (rest : Verdict) → Accepted ≡ listVerdict n p list Accepted → listVerdict n p list rest ≡ rest
+list-pass n p list rest e = all-pass (listVerdict n p list) (list-tests n p list) (sym e) rest
+
+pub list-stop : (n p : ℕ) (list : GuardList) (r : Refusal) (rest : Verdict) → Refused r ≡ listVerdict n p list Accepted → listVerdict n p list rest ≡ Refused r
+list-stop n p list r rest e = one-stops (listVerdict n p list) (list-tests n p list) r (sym e) rest

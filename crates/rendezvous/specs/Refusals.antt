@@ -8,6 +8,7 @@ use Rattle.alternative.specs.declared.Guard.{Guard}
 use Rattle.alternative.specs.declared.GuardList.{GuardList}
 use Rattle.alternative.specs.Guards.{anyGuard}
 use Rattle.alternative.specs.Exchange.{actionHoldsNan}
+use Rattle.rendezvous.specs.declared.TransactionId.{TransactionId}
 use Rattle.rendezvous.specs.declared.Place.{Place}
 use Rattle.rendezvous.specs.declared.Place.the-variants.{Idle, Entering, Scanning, Trying, Committed, Posting, Opening, Showing, Asleep, Waiting, Met}
 use Rattle.rendezvous.specs.declared.ProcessTable.{ProcessTable}
@@ -56,14 +57,20 @@ tableVerdict t = require (wellFormed t) Malformed Accepted
 unfoldable pub processVerdict : ProcessTable → ℕ → Verdict
 processVerdict t p = require (wellFormed t) Malformed (require (ltb p (t .n)) NoSuchProcess Accepted)
 
--- an offer of a list by process p: 7, 2, 3, then 4 and 5, 6, and from the state 11 and 12
+-- an offer of a list by process p: 7 and 2; of the list 3, then 4 and 5, then 6; and from the state 11 and 12
+unfoldable pub listVerdict : ℕ → ℕ → GuardList → Verdict → Verdict
+listVerdict n p list rest =
+    let gs = take (list .count) (list .guards) in
+    require (leb 1 (list .count) && leb (list .count) mostGuards) GuardCount
+    (requireGuards n p gs
+    (require (anyGuard (λ g. g .enabled) gs) NoneEnabled rest))
+
+unfoldable pub stateVerdict : Place → TransactionId → Verdict
+stateVerdict place next = require (isIdle place) NotIdle (require (ltb (next .0) lastTransaction) LastTransaction Accepted)
+
 unfoldable pub offerVerdict : ProcessTable → ℕ → GuardList → Verdict
 offerVerdict t p list =
-    let gs = take (list .count) (list .guards) in
     require (wellFormed t) Malformed
     (require (ltb p (t .n)) NoSuchProcess
-    (require (leb 1 (list .count) && leb (list .count) mostGuards) GuardCount
-    (requireGuards (t .n) p gs
-    (require (anyGuard (λ g. g .enabled) gs) NoneEnabled
-    (require (isIdle (process t p .place)) NotIdle
-    (require (ltb (t .next .0) lastTransaction) LastTransaction Accepted))))))
+    (listVerdict (t .n) p list
+    (stateVerdict (process t p .place) (t .next))))

@@ -1,1 +1,156 @@
 // Offers of a list that is given by value.
+use crate::Answer;
+use crate::LAST_TRANSACTION;
+use crate::Place;
+use crate::Process;
+use crate::ProcessTable;
+use crate::Refusal;
+use crate::Reply;
+use crate::TransactionId;
+use crate::Verdict;
+use crate::well_formed::partner_fits;
+use alternative::Guard;
+use alternative::GuardList;
+use alternative::action_holds_nan;
+use alternative::any_enabled;
+use alternative::blanked;
+ghost use mathlib.Core.Path.{_≡_};
+ghost use Prim.Native.Nat.{_≤_};
+ghost use lib.ListN.{take};
+ghost use lib.Dec.{ltb};
+ghost use Rattle.rendezvous.specs.Refusals.{require, requireGuards, listVerdict, stateVerdict};
+ghost use Rattle.rendezvous.specs.Calls.{entering, offer};
+
+// 4, then 5, guard by guard.
+fn guards_verdict(n: u8, p: u8, guards: [Guard; 8], count: usize) -> Verdict
+    ensures { λ r. ⌜ r ≡ requireGuards n p (take count guards) Verdict.Accepted ⌝ }
+{
+    let mut k: usize = 0;
+    while k < count {
+        if 8 <= k {
+            return Verdict::Accepted;
+        }
+        let g = guards[k];
+        if !partner_fits(n, p, g) {
+            return Verdict::Refused(Refusal::Partner);
+        }
+        let action = g.action;
+        if action_holds_nan(action) {
+            return Verdict::Refused(Refusal::NotANumber);
+        }
+        k = k + 1;
+    }
+    Verdict::Accepted
+}
+
+// 3, then 4 and 5, then 6.
+fn list_verdict(n: u8, p: u8, list: GuardList) -> Verdict
+    ensures { λ r. ⌜ r ≡ listVerdict n p list Verdict.Accepted ⌝ }
+{
+    let count = list.count;
+    if count < 1 {
+        return Verdict::Refused(Refusal::GuardCount);
+    }
+    if 8 < count {
+        return Verdict::Refused(Refusal::GuardCount);
+    }
+    let guards = list.guards;
+    match guards_verdict(n, p, guards, count) {
+        Verdict::Refused(refusal) => Verdict::Refused(refusal),
+        Verdict::Accepted => {
+            if any_enabled(guards, count) {
+                Verdict::Accepted
+            } else {
+                Verdict::Refused(Refusal::NoneEnabled)
+            }
+        }
+    }
+}
+
+// From the state: 11, then 12.
+fn state_verdict(place: Place, next: TransactionId) -> Verdict
+    ensures { λ r. ⌜ r ≡ stateVerdict place next ⌝ }
+{
+    if !place.is_idle() {
+        return Verdict::Refused(Refusal::NotIdle);
+    }
+    if next.0 < LAST_TRANSACTION {
+        Verdict::Accepted
+    } else {
+        Verdict::Refused(Refusal::LastTransaction)
+    }
+}
+
+// The record of a process whose offer is accepted.
+fn entered(x: Process, ticket: TransactionId, list: GuardList) -> Process
+    requires { ⌜ list .count ≤ 8 ⌝ }
+    ensures { λ r. ⌜ r ≡ entering x ticket list ⌝ }
+{
+    let count = list.count;
+    let given = list.guards;
+    let signal = x.signal;
+    let altlist = x.altlist;
+    Process {
+        place: Place::Entering,
+        signal: signal,
+        transaction: ticket,
+        accepting: x.accepting,
+        count: count as u8,
+        altcount: x.altcount,
+        guards: blanked(given, count),
+        altlist: altlist,
+    }
+}
+
+// Every refusal of an offer, in its order: `formed` says whether the table is well-formed, `place` is the process's.
+fn offer_verdict(
+    formed: bool,
+    n: u8,
+    p: u8,
+    list: GuardList,
+    place: Place,
+    next: TransactionId,
+) -> Verdict
+    ensures { λ r. ⌜ r ≡ require formed Refusal.Malformed (require (ltb p n) Refusal.NoSuchProcess (listVerdict n p list (stateVerdict place next))) ⌝ }
+{
+    if !formed {
+        return Verdict::Refused(Refusal::Malformed);
+    }
+    if n <= p {
+        return Verdict::Refused(Refusal::NoSuchProcess);
+    }
+    match list_verdict(n, p, list) {
+        Verdict::Refused(refusal) => Verdict::Refused(refusal),
+        Verdict::Accepted => state_verdict(place, next),
+    }
+}
+
+impl ProcessTable {
+    // Offers a list for process p, and gives the offer's ticket.
+    pub fn offer(self, p: u8, list: GuardList) -> Reply
+        ensures { λ r. ⌜ r ≡ offer self p list ⌝ }
+    {
+        let mut t = self;
+        let i = (p % 32) as usize;
+        let x = t.processes[i];
+        let place = x.place;
+        let next = t.next;
+        let verdict = offer_verdict(t.well_formed(), t.n, p, list, place, next);
+        match verdict {
+            Verdict::Refused(refusal) => Reply {
+                answer: Answer::Refused(refusal),
+                table: t,
+            },
+            Verdict::Accepted => {
+                let y = entered(x, next, list);
+                let following = TransactionId(next.0 + 1);
+                t.processes[i] = y;
+                t.next = following;
+                Reply {
+                    answer: Answer::Offered(next),
+                    table: t,
+                }
+            }
+        }
+    }
+}
