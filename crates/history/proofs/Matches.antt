@@ -1,0 +1,140 @@
+-- What a match of two guards says, what the two searches in a list of guards find, and what a list that fits says of its guards.
+use Prim.Native.Nat.{ℕ, zero, suc, _+_, _-_, _≤_, _<_}
+use mathlib.Core.Path.{_≡_, refl, sym, _∙_, ap, subst}
+use mathlib.Core.List.{List, [], _∷_}
+use mathlib.Core.Bool.{Bool, true, false, not, _&&_, cond, false≢true}
+use native.Mathlib.Nat.{add-zero}
+use native.Mathlib.Omega.{arith}
+use lib.ListN.{getD, take, drop, length, List·getD-eq-default}
+use lib.Seq.{getD-drop}
+use lib.Dec.{eqb, ltb, leb}
+use borrow.Author.Tests.{eqb-true, eqb-false, ltb-true, ltb-false, not-true}
+use Rattle.alternative.specs.declared.Action.{Action}
+use Rattle.alternative.specs.declared.Action.the-variants.{Receive, Send}
+use Rattle.alternative.specs.declared.Guard.{Guard}
+use Rattle.alternative.specs.declared.Found.{Found}
+use Rattle.alternative.specs.declared.Found.the-variants.{At, Missing}
+use Rattle.alternative.specs.Guards.{blank, opposite, guardsMatch, anyGuard, offersMatch, firstFrom, firstMatch, nextEnabled}
+use Rattle.rendezvous.specs.Table.{mostGuards}
+use Rattle.rendezvous.specs.WellFormed.{allGuards, partnerFits, listFits}
+use Rattle.rendezvous.proofs.Forms.{and-parts}
+use Rattle.history.proofs.Invariant.{On}
+
+-- the two cases of an order
+pub split : {A : Type 0} (m n : ℕ) → (m < n → A) → (n ≤ m → A) → A
+split {A} m n f g = go (ltb m n) refl
+  where
+    go : (b : Bool) → ltb m n ≡ b → A
+    go true e = f (ltb-true m n e)
+    go false e = g (ltb-false m n e)
+
+-- what a match says
+pub record Match (p : ℕ) (g : Guard) (q : ℕ) (h : Guard) : Type 0 where
+  pub here : g .enabled ≡ true
+  pub there : h .enabled ≡ true
+  pub to : g .partner ≡ q
+  pub back : h .partner ≡ p
+  pub one-sends : opposite (g .action) (h .action) ≡ true
+
+pub match : {p : ℕ} {g : Guard} {q : ℕ} {h : Guard} → guardsMatch p g q h ≡ true → Match p g q h
+unfolding guardsMatch
+match {p} {g} {q} {h} e =
+    let a = and-parts (g .enabled) _ e in
+    let b = and-parts (h .enabled) _ (a .1) in
+    let c = and-parts (eqb (g .partner) q) _ (b .1) in
+    let d = and-parts (eqb (h .partner) p) _ (c .1) in
+    record { here = a .0; there = b .0; to = eqb-true _ _ (c .0); back = eqb-true _ _ (d .0); one-sends = d .1 }
+
+opposite-comm : (a b : Action) → opposite a b ≡ opposite b a
+opposite-comm Receive Receive = refl
+opposite-comm Receive (Send m) = refl
+opposite-comm (Send m) Receive = refl
+opposite-comm (Send m) (Send k) = refl
+
+and-swap : (a b c : Bool) → (a && (b && c)) ≡ (b && (a && c))
+and-swap true true c = refl
+and-swap true false c = refl
+and-swap false true c = refl
+and-swap false false c = refl
+
+-- matching is symmetric
+pub match-comm : (p : ℕ) (g : Guard) (q : ℕ) (h : Guard) → guardsMatch p g q h ≡ guardsMatch q h p g
+unfolding guardsMatch
+match-comm p g q h = rw (opposite-comm (g .action) (h .action), and-swap (eqb (g .partner) q) (eqb (h .partner) p) _) (and-swap (g .enabled) (h .enabled) _)
+
+-- by the two values of a test
+test-elim : {A : Type 0} (P : A → Type 0) (b : Bool) {x y : A} → (b ≡ true → P x) → (b ≡ false → P y) → P (cond b x y)
+test-elim P true f g = f refl
+test-elim P false f g = g refl
+
+-- A search stops at a guard that passes the test with none before it, or finds none.
+first-view : (P : Found → Type 0) (test : Guard → Bool) (hs : List Guard) (s : ℕ) → (test blank ≡ true → ⊥)
+    → ((i : ℕ) → test (getD hs i blank) ≡ true → ((k : ℕ) → k < i → test (getD hs k blank) ≡ true → ⊥) → P (At (s + i)))
+    → (((k : ℕ) → test (getD hs k blank) ≡ true → ⊥) → P Missing)
+    → P (firstFrom test hs s)
+unfolding firstFrom
+first-view P test [] s off a b = b (λ k. off)
+first-view P test (g ∷ gs) s off a b = test-elim P (test g)
+    (λ e. rw add-zero at (a 0 e (λ k l. absurd (omega arith))))
+    (λ e. first-view P test gs (suc s) off
+    (λ i o n. subst P (ap At (omega arith)) (a (suc i) o (λ k. elim k [ zero ↦ λ l c. false≢true (sym e ∙ c) | suc j ↦ λ l c. n j (omega arith) c ])))
+    (λ n. b (λ k. elim k [ zero ↦ λ c. false≢true (sym e ∙ c) | suc j ↦ n j ])))
+
+-- what rule 7's search says: the guard that it finds matches, and where it finds none, none does
+abbrev pub Searched : ℕ → Guard → ℕ → List Guard → Found → Type 0
+Searched p g q hs (At j) = guardsMatch p g q (getD hs j blank) ≡ true
+Searched p g q hs Missing = (k : ℕ) → guardsMatch p g q (getD hs k blank) ≡ true → ⊥
+
+pub searched : (p : ℕ) (g : Guard) (q : ℕ) (hs : List Guard) → Searched p g q hs (firstMatch p g q hs)
+unfolding firstMatch
+searched p g q hs = first-view (Searched p g q hs) (guardsMatch p g q) hs 0 (λ e. false≢true (match e .there)) (λ i e n. subst (λ (j : ℕ). Searched p g q hs (At j)) (omega arith) e) (λ n. n)
+
+-- the first enabled guard at or after index s
+pub next-view : (P : Found → Type 0) (gs : List Guard) (s : ℕ)
+    → ((i : ℕ) → On gs i → s ≤ i → ((k : ℕ) → s ≤ k → k < i → On gs k → ⊥) → P (At i))
+    → (((k : ℕ) → s ≤ k → On gs k → ⊥) → P Missing)
+    → P (nextEnabled gs s)
+unfolding nextEnabled
+next-view P gs s a b = first-view P (λ g. g .enabled) (drop s gs) s false≢true
+    (λ i o n. a (s + i) (rw getD-drop at o) (omega arith) (λ k h l c. n (k - s) (omega arith) (lower k h c)))
+    (λ n. b (λ k h c. n (k - s) (lower k h c)))
+  where
+    lower : (k : ℕ) → s ≤ k → On gs k → On (drop s gs) (k - s)
+    lower k h a = rw getD-drop (subst (On gs) (omega arith) a)
+
+-- an enabled guard stands in the list
+pub on-inside : (gs : List Guard) (k : ℕ) → On gs k → k < length gs
+on-inside gs k o = split k (length gs) (λ h. h) (λ h. absurd (false≢true (sym (ap (λ (g : Guard). g .enabled) (List·getD-eq-default gs blank h)) ∙ o)))
+
+-- offers match by two guards, if at all
+any-none : (test : Guard → Bool) (gs : List Guard) → ((k : ℕ) → test (getD gs k blank) ≡ false) → anyGuard test gs ≡ false
+unfolding anyGuard
+any-none test [] h = refl
+any-none test (g ∷ gs) h = rw (h 0) (any-none test gs (λ k. h (suc k)))
+
+pub no-match : (p : ℕ) (gs : List Guard) (q : ℕ) (hs : List Guard) → ((k l : ℕ) → guardsMatch p (getD gs k blank) q (getD hs l blank) ≡ true → ⊥) → offersMatch p gs q hs ≡ false
+unfolding offersMatch
+no-match p gs q hs h = any-none (λ g. anyGuard (guardsMatch p g q) hs) gs (λ k. any-none (guardsMatch p (getD gs k blank) q) hs (λ l. neither _ (h k l)))
+  where
+    neither : (b : Bool) → (b ≡ true → ⊥) → b ≡ false
+    neither true n = absurd (n refl)
+    neither false n = refl
+
+-- a guard of a list that fits process p of n names another process below n
+pub record NamesOther (n p : ℕ) (g : Guard) : Type 0 where
+  pub other : g .partner ≡ p → ⊥
+  pub below : g .partner < n
+
+all-at : (test : Guard → Bool) (gs : List Guard) → allGuards test gs ≡ true → (k : ℕ) → k < length gs → test (getD gs k blank) ≡ true
+unfolding allGuards
+all-at test [] e k h = absurd (omega arith)
+all-at test (g ∷ gs) e zero h = and-parts (test g) _ e .0
+all-at test (g ∷ gs) e (suc k) h = all-at test gs (and-parts (test g) _ e .1) k (omega arith)
+
+pub fits-names : (n p count : ℕ) (guards : List Guard) → listFits n p count guards ≡ true → (k : ℕ) → On (take count guards) k → NamesOther n p (getD (take count guards) k blank)
+unfolding listFits partnerFits
+fits-names n p count guards e k o =
+    let a = and-parts (leb count mostGuards) _ e .1 in
+    let b = all-at (partnerFits n p) (take count guards) a k (on-inside (take count guards) k o) in
+    let c = and-parts (not (eqb (getD (take count guards) k blank .partner) p)) _ b in
+    record { other = eqb-false _ _ (not-true _ (c .0)); below = ltb-true _ _ (c .1) }
