@@ -1,5 +1,5 @@
 -- To be believed. Document 01, rule 9 and refusal 5: the messages that a rendezvous hands over, and messages that hold a NaN.
-use mathlib.Core.Bool.{Bool, true, false, _||_}
+use mathlib.Core.Bool.{Bool, false, _||_}
 use lib.Ieee.{isNan}
 use Rattle.alternative.specs.declared.Message.{Message}
 use Rattle.alternative.specs.declared.Message.the-variants.{Nothing, Whole, Reading, Limit}

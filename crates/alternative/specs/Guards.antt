@@ -4,13 +4,16 @@ use mathlib.Core.Bool.{Bool, true, false, _&&_, _||_, cond}
 use mathlib.Core.List.{List, [], _∷_, _++_}
 use lib.ListN.{take, drop, length, replicate}
 use lib.Dec.{eqb}
-use Rattle.alternative.specs.declared.Message.{Message}
 use Rattle.alternative.specs.declared.Action.{Action}
 use Rattle.alternative.specs.declared.Action.the-variants.{Receive, Send}
 use Rattle.alternative.specs.declared.Guard.{Guard}
 use Rattle.alternative.specs.declared.GuardList.{GuardList}
 use Rattle.alternative.specs.declared.Found.{Found}
 use Rattle.alternative.specs.declared.Found.the-variants.{At, Missing}
+
+-- "its list of up to eight guards"
+abbrev pub mostGuards : ℕ
+mostGuards = 8
 
 -- what stands in a slot of a guard array past the list's end
 abbrev pub blank : Guard
@@ -49,9 +52,9 @@ firstMatch p g q hs = firstFrom (guardsMatch p g q) hs 0
 unfoldable pub nextEnabled : List Guard → ℕ → Found
 nextEnabled gs k = firstFrom (λ g. g .enabled) (drop k gs) k
 
--- the eight slots that hold a list: its guards, then blanks
+-- the slots that hold a list: its guards, then blanks
 unfoldable pub slots : List Guard → List Guard
-slots gs = take 8 (gs ++ replicate 8 blank)
+slots gs = take mostGuards (gs ++ replicate mostGuards blank)
 
 -- a guard list as its task lends it, of any length
 unfoldable pub lent : List Guard → GuardList

@@ -25,7 +25,7 @@ use Rattle.rendezvous.specs.Table.{stateOf, ownList, postedList, ownGuard, post
 use Rattle.rendezvous.specs.Rules.{atPlace, withSignal, withAccepting, withOwnPosted, scanAt, scanFrom, scan, try, meet, absorb, ruleAt, rule, partnerAt, partnerOf}
 use Rattle.rendezvous.specs.WellFormed.{listFits}
 use Rattle.rendezvous.specs.Calls.{entering}
-use Rattle.rendezvous.specs.Numbers.{indexOf}
+use Rattle.rendezvous.specs.Table.{indexOf}
 use Rattle.history.proofs.View.{View, upd, effected, upd-same, upd-other, upd-each, upd-comm}
 use Rattle.history.proofs.Invariant.{Past, Tries, Commits, Shows, On, Calm, Heard, Fine, Bound, Inv}
 use Rattle.history.proofs.Matches.{split, match, Searched, searched, next-view, NamesOther, fits-names}

@@ -15,7 +15,7 @@ use Rattle.alternative.specs.declared.Guard.{Guard}
 use Rattle.alternative.specs.declared.Found.{Found}
 use Rattle.alternative.specs.declared.Found.the-variants.{At, Missing}
 use Rattle.alternative.specs.Guards.{blank, opposite, guardsMatch, anyGuard, offersMatch, firstFrom, firstMatch, nextEnabled}
-use Rattle.rendezvous.specs.Table.{mostGuards}
+use Rattle.alternative.specs.Guards.{mostGuards}
 use Rattle.rendezvous.specs.WellFormed.{allGuards, partnerFits, listFits}
 use Rattle.rendezvous.proofs.Forms.{and-parts}
 use Rattle.history.proofs.Invariant.{On}

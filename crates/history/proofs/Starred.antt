@@ -1,14 +1,14 @@
 -- Every starred case of document 01 holds, by one computation over the definitions.
-use mathlib.Core.Path.{_≡_, refl}
+use mathlib.Core.Path.{refl}
 use lib.Ieee.{ofBits}
 use Rattle.alternative.specs.Guards.{guardsMatch, anyGuard, firstFrom, firstMatch, nextEnabled, slots, lent}
-use Rattle.rendezvous.specs.Rules.{scanFrom, meet, rule}
+use Rattle.rendezvous.specs.Rules.{scanFrom, handOver, rule}
 use Rattle.rendezvous.specs.WellFormed.{allGuards, allBelow, countFits, partnerFits, listFits, processFits, fitsAt, wellFormed}
 use Rattle.rendezvous.specs.Refusals.{requireGuards, createVerdict, tableVerdict, processVerdict, listVerdict, stateVerdict, offerVerdict}
-use Rattle.rendezvous.specs.Calls.{create, entering, offered, offer, effectOn, stepped, step, collect, setBelow, runnableSet, runnable}
+use Rattle.rendezvous.specs.Calls.{create, entering, offered, offerList, effectOn, stepped, step, collect, setBelow, runnableSet, runnable}
 use Rattle.history.specs.Run.{replyTo}
-use Rattle.history.specs.Cases.{replyToCommand, allSaid, starred, saidInCases, dueInCases}
+use Rattle.history.specs.Cases.{replyToCommand, allSaid, starred, Starred}
 
-pub starred-hold : saidInCases starred ≡ dueInCases starred
-unfolding guardsMatch anyGuard firstFrom firstMatch nextEnabled slots lent scanFrom meet rule allGuards allBelow countFits partnerFits listFits processFits fitsAt wellFormed requireGuards createVerdict tableVerdict processVerdict listVerdict stateVerdict offerVerdict create entering offered offer effectOn stepped step collect setBelow runnableSet runnable replyTo replyToCommand allSaid starred ofBits lib.Ieee.isNan
+pub starred-hold : Starred
+unfolding guardsMatch anyGuard firstFrom firstMatch nextEnabled slots lent scanFrom handOver rule allGuards allBelow countFits partnerFits listFits processFits fitsAt wellFormed requireGuards createVerdict tableVerdict processVerdict listVerdict stateVerdict offerVerdict create entering offered offerList effectOn stepped step collect setBelow runnableSet runnable replyTo replyToCommand allSaid starred ofBits lib.Ieee.isNan
 starred-hold = refl

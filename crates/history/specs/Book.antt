@@ -5,22 +5,16 @@ use mathlib.Core.List.{List, [], _∷_, _++_}
 use mathlib.Core.Option.{Option, some, none}
 use lib.ListN.{getElem?}
 use lib.Dec.{eqb}
-use Rattle.alternative.specs.declared.Message.{Message}
-use Rattle.alternative.specs.declared.Message.the-variants.{Nothing}
-use Rattle.alternative.specs.declared.Action.{Action}
-use Rattle.alternative.specs.declared.Action.the-variants.{Receive, Send}
-use Rattle.alternative.specs.declared.Guard.{Guard}
-use Rattle.alternative.specs.declared.Found.{Found}
-use Rattle.alternative.specs.declared.Found.the-variants.{At, Missing}
 use Rattle.alternative.specs.Guards.{firstMatch}
 use Rattle.alternative.specs.Exchange.{sentBy}
+use Rattle.history.specs.Types.{Message, Nothing, Action, Receive, Send, Guard, Found, At, Missing}
 use Rattle.rendezvous.specs.Numbers.{Letter, I, E, A, T, C, P, O, H, S, W, M, Said, made, ticket, place, same, outcome, movers, refusal}
 use Rattle.history.specs.Run.{Call, Offer, Step, Collect}
 
--- "For each party it has an open offer (ticket and guard list) or none, and a due outcome (guard index, partner, message) or none. It also has a next ticket
--- and the meetings so far": tickets of p and q, p, i, q, j and the message.
+-- "For each party it has an open offer (ticket and guard list) or none, and a due outcome (guard index, partner, message) or none. It also has a next ticket and the
+-- meetings so far": a meeting has "both tickets, p, i, q, j and the sending guard's message".
 pub record Transaction : Type 0 where
-  pub ticket : ℕ
+  pub id : ℕ
   pub guards : List Guard
 
 pub record Due : Type 0 where
@@ -29,8 +23,8 @@ pub record Due : Type 0 where
   pub message : Message
 
 pub record Rendezvous : Type 0 where
-  pub ticketP : ℕ
-  pub ticketQ : ℕ
+  pub idP : ℕ
+  pub idQ : ℕ
   pub p : ℕ
   pub i : ℕ
   pub q : ℕ
@@ -54,35 +48,30 @@ pub data Seen : Type 0 where
   at : Letter → Option ℕ → Seen
 
 abbrev pub seen : Said → Seen
+seen (refusal number) = refused
+seen (place letter index) = at letter index
 seen made = accepted
 seen (ticket t) = accepted
-seen (place letter index) = at letter index
 seen same = accepted
 seen (outcome i q m) = accepted
 seen (movers set) = accepted
-seen (refusal number) = refused
 
 -- "Where an entry lacks what it needs, the book is stuck": none.
 abbrev pub _>>=_ : {A B : Type 0} → Option A → (A → Option B) → Option B
 _>>=_ none f = none
 _>>=_ (some a) f = f a
 
--- what a book has for each process, with another entry for p
+-- what the book has for each process, with another entry for p
 abbrev pub enteredFor : {A : Type 0} → ℕ → A → (ℕ → A) → ℕ → A
 enteredFor p a old = λ q. cond (eqb q p) a (old q)
 
 -- "Accepted offer by p, who must have neither an open offer nor a due outcome: it becomes p's open offer under the next ticket, which then grows by 1."
 abbrev pub offering : History → ℕ → List Guard → Option Transaction → Option Due → Option History
-offering b p gs none none = some (record {
-  next = suc (b .next);
-  opened = enteredFor p (some (record { ticket = b .next; guards = gs })) (b .opened);
-  due = b .due;
-  run = b .run;
-})
+offering b p gs none none = some (record { next = suc (b .next); opened = enteredFor p (some (record { id = b .next; guards = gs })) (b .opened); due = b .due; run = b .run })
 offering b p gs none (some d) = none
 offering b p gs (some o) d = none
 
--- "the sending guard's message"
+-- "the sending guard's message": of the two guards' actions
 abbrev pub messageOf : Action → Action → Message
 messageOf (Send m) other = m
 messageOf Receive other = sentBy other
@@ -92,9 +81,9 @@ abbrev pub dueMessage : Action → Message → Message
 dueMessage (Send k) m = Nothing
 dueMessage Receive m = m
 
--- "A meeting is entered ... Both offers close. Due for p are i, q and that message ..; for q likewise j and p.": guard g of p's offer, h of q's
-unfoldable pub meeting : History → ℕ → ℕ → Transaction → Guard → ℕ → Transaction → Guard → History
-meeting b p i mine g j theirs h =
+-- "A meeting is entered: .. Both offers close. Due for p are i, q and that message ..; for q likewise j and p.": g is guard i of p's offer, h guard j of q's
+unfoldable pub withRendezvous : History → ℕ → ℕ → Transaction → Guard → ℕ → Transaction → Guard → History
+withRendezvous b p i mine g j theirs h =
     let q = g .partner in
     let m = messageOf (g .action) (h .action) in
     record {
@@ -102,14 +91,14 @@ meeting b p i mine g j theirs h =
       opened = enteredFor p none (enteredFor q none (b .opened));
       due = enteredFor p (some (record { index = i; partner = q; message = dueMessage (g .action) m }))
           (enteredFor q (some (record { index = j; partner = p; message = dueMessage (h .action) m })) (b .due));
-      run = b .run ++ (record { ticketP = mine .ticket; ticketQ = theirs .ticket; p = p; i = i; q = q; j = j; message = m } ∷ []);
+      run = b .run ++ (record { idP = mine .id; idQ = theirs .id; p = p; i = i; q = q; j = j; message = m } ∷ []);
     }
 
+-- "guard i of p's open offer names q, and j is the index that rule 7's search keeps, with q's open list as the posted one"
 abbrev pub foundIndex : Found → Option ℕ
 foundIndex (At j) = some j
 foundIndex Missing = none
 
--- "guard i of p's open offer names q, and j is the index that rule 7's search keeps, with q's open list as the posted one"
 unfoldable pub committing : History → ℕ → ℕ → Option History
 committing b p i = do
   mine ← b .opened p
@@ -117,9 +106,9 @@ committing b p i = do
   theirs ← b .opened (g .partner)
   j ← foundIndex (firstMatch p g (g .partner) (theirs .guards))
   h ← getElem? (theirs .guards) j
-  some (meeting b p i mine g j theirs h)
+  some (withRendezvous b p i mine g j theirs h)
 
--- "Step of p answered C with index i, the commit"; "Any other step .. : nothing changes."
+-- "Step of p answered C with index i, the commit"; "Any other step ..: nothing changes."
 abbrev pub stepping : History → ℕ → Letter → Option ℕ → Option History
 stepping b p C (some i) = committing b p i
 stepping b p C none = none
@@ -139,7 +128,7 @@ abbrev pub collecting : History → ℕ → Option Due → Option History
 collecting b p none = none
 collecting b p (some d) = some (record { next = b .next; opened = b .opened; due = enteredFor p none (b .due); run = b .run })
 
--- the book after a call, by what it sees of the answer; "every refused call: nothing changes"
+-- the book after a call; "every refused call: nothing changes"
 unfoldable pub enter : History → Call → Seen → Option History
 enter b (Offer p gs) refused = some b
 enter b (Offer p gs) accepted = offering b p gs (b .opened p) (b .due p)

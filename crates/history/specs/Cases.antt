@@ -1,23 +1,18 @@
 -- To be believed. Document 01, "Edges to try": the starred cases, in its order, with its numbers.
 use Prim.Native.Nat.{ℕ}
-use mathlib.Core.Bool.{Bool, true, false}
-use mathlib.Core.List.{List, [], _∷_, _++_, map}
+use mathlib.Core.Path.{_≡_}
+use mathlib.Core.Bool.{true, false}
+use mathlib.Core.List.{List, [], _∷_, map}
 use mathlib.Core.Option.{some, none}
 use lib.ListN.{replicate}
 use lib.Ieee.{binary32, ofBits}
-use Rattle.alternative.specs.declared.Message.{Message}
-use Rattle.alternative.specs.declared.Message.the-variants.{Nothing, Reading}
-use Rattle.alternative.specs.declared.Action.{Action}
-use Rattle.alternative.specs.declared.Action.the-variants.{Receive, Send}
-use Rattle.alternative.specs.declared.Guard.{Guard}
-use Rattle.rendezvous.specs.declared.ProcessTable.{ProcessTable}
-use Rattle.rendezvous.specs.declared.Reply.{Reply}
+use Rattle.history.specs.Types.{Message, Nothing, Reading, Receive, Send, Guard, ProcessTable, Reply}
 use Rattle.rendezvous.specs.Table.{mostProcesses, freshProcess, freshTable}
 use Rattle.rendezvous.specs.Calls.{create, runnable}
-use Rattle.rendezvous.specs.Numbers.{Letter, I, E, A, T, C, P, O, H, S, W, M, Said, made, ticket, place, same, outcome, movers, refusal, said}
+use Rattle.rendezvous.specs.Numbers.{A, T, C, P, O, H, S, W, M, Said, made, ticket, place, same, outcome, movers, refusal, said}
 use Rattle.history.specs.Run.{Call, Offer, Step, Collect, replyTo}
 
--- a line of the script program: a new table, one of the calls of demand 3, or movers
+-- a new table, one of the calls of demand 3, or movers
 pub data Command : Type 0 where
   New : ℕ → Command
   Do : Call → Command
@@ -88,7 +83,7 @@ starred =
     -- n 1 gives 1; n 2 and 32 are made; n 33 gives 1
     case (New 1 ∷ []) (refusal 1 ∷ [])
     ∷ case (New 2 ∷ []) (made ∷ [])
-    ∷ case (New 32 ∷ []) (made ∷ [])
+    ∷ case (New 32 ∷ offers 31 (receive 0 ∷ []) ∷ offers 32 (receive 0 ∷ []) ∷ []) (made ∷ ticket 0 ∷ refusal 2 ∷ [])
     ∷ case (New 33 ∷ []) (refusal 1 ∷ [])
     -- no guards gives 3; nine gives 3
     ∷ case (New 2 ∷ offers 0 [] ∷ []) (made ∷ refusal 3 ∷ [])
@@ -103,7 +98,7 @@ starred =
     ∷ case (New 2 ∷ offers 0 (disabled 1 ∷ disabled 1 ∷ []) ∷ []) (made ∷ refusal 6 ∷ [])
     ∷ case (New 2 ∷ offers 0 (receive 1 ∷ []) ∷ offers 0 (receive 1 ∷ []) ∷ []) (made ∷ ticket 0 ∷ refusal 11 ∷ [])
     -- next ticket 4,294,967,294 is given out; at 4,294,967,295: 12
-    ∷ record { start = withNext 4294967294; commands = offers 0 (receive 1 ∷ []) ∷ []; says = ticket 4294967294 ∷ [] }
+    ∷ record { start = withNext 4294967294; commands = offers 0 (receive 1 ∷ []) ∷ offers 1 (receive 0 ∷ []) ∷ []; says = ticket 4294967294 ∷ refusal 12 ∷ [] }
     ∷ record { start = withNext 4294967295; commands = offers 0 (receive 1 ∷ []) ∷ []; says = refusal 12 ∷ [] }
     -- parties 0 and 1, one guard each, at A on each other, tickets 0 and 1: a step of 0 changes nothing; a step of 1 puts it to S; then a step of 0 goes to P
     ∷ case
@@ -113,9 +108,6 @@ starred =
     ∷ case (handOver 0x40970a3d) (handedOver 0x40970a3d)
     ∷ []
 
--- what the definitions say in each case, and what they must say
-abbrev pub saidInCases : List Case → List (List Said)
-saidInCases = map (λ c. allSaid (c .start) (c .commands))
-
-abbrev pub dueInCases : List Case → List (List Said)
-dueInCases = map (λ c. c .says)
+-- In every starred case the definitions say what document 01 says.
+abbrev pub Starred : Type 0
+Starred = map (λ c. allSaid (c .start) (c .commands)) starred ≡ map (λ c. c .says) starred

@@ -1,3 +1,4 @@
+pub mod Types
 pub mod Run
 pub mod Book
 pub mod Demand3

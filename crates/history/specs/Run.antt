@@ -1,10 +1,7 @@
--- To be believed. Document 01, demand 3: lists of offers, steps and collections, each call getting the table that the last one handed back.
+-- To be believed. The lists of calls of demand 3: offers, steps and collections, each getting the table that the last one handed back.
 use Prim.Native.Nat.{ℕ}
 use mathlib.Core.List.{List, [], _∷_}
-use Rattle.alternative.specs.declared.Guard.{Guard}
-use Rattle.alternative.specs.Guards.{lent}
-use Rattle.rendezvous.specs.declared.ProcessTable.{ProcessTable}
-use Rattle.rendezvous.specs.declared.Reply.{Reply}
+use Rattle.history.specs.Types.{Guard, ProcessTable, Reply}
 use Rattle.rendezvous.specs.Calls.{offer, step, collect}
 use Rattle.rendezvous.specs.Numbers.{Said, said}
 
@@ -13,14 +10,8 @@ pub data Call : Type 0 where
   Step : ℕ → Call
   Collect : ℕ → Call
 
--- the process that a call names
-abbrev pub caller : Call → ℕ
-caller (Offer p gs) = p
-caller (Step p) = p
-caller (Collect p) = p
-
 unfoldable pub replyTo : ProcessTable → Call → Reply
-replyTo t (Offer p gs) = offer t p (lent gs)
+replyTo t (Offer p gs) = offer t p gs
 replyTo t (Step p) = step t p
 replyTo t (Collect p) = collect t p
 
@@ -31,7 +22,6 @@ saidTo t c = said (replyTo t c .answer)
 abbrev pub tableAfter : ProcessTable → Call → ProcessTable
 tableAfter t c = replyTo t c .table
 
--- the table after a list of calls
 unfoldable pub tableAfterAll : ProcessTable → List Call → ProcessTable
 tableAfterAll t [] = t
 tableAfterAll t (c ∷ cs) = tableAfterAll (tableAfter t c) cs

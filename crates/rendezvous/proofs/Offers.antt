@@ -11,34 +11,34 @@ use Rattle.alternative.specs.declared.GuardList.{GuardList}
 use Rattle.rendezvous.specs.declared.Process.{Process}
 use Rattle.rendezvous.specs.declared.ProcessTable.{ProcessTable}
 use Rattle.rendezvous.specs.declared.Answer.the-variants.{Offered}
-use Rattle.rendezvous.specs.declared.Refusal.the-variants.{Malformed, NoSuchProcess}
+use Rattle.rendezvous.specs.declared.Refusal.the-variants.{NotWellFormed, NoSuchProcess}
 use Rattle.rendezvous.specs.declared.Reply.{Reply}
 use Rattle.rendezvous.specs.declared.Verdict.{Verdict}
 use Rattle.rendezvous.specs.declared.Verdict.the-variants.{Accepted}
 use Rattle.rendezvous.specs.Table.{process}
 use Rattle.rendezvous.specs.WellFormed.{wellFormed}
 use Rattle.rendezvous.specs.Refusals.{require, listVerdict, stateVerdict, offerVerdict}
-use Rattle.rendezvous.specs.Calls.{entering, offered, offer}
+use Rattle.rendezvous.specs.Calls.{entering, offered, offerList}
 use Rattle.rendezvous.proofs.Forms.{formed-most}
 use Rattle.rendezvous.proofs.Verdicts.{offer-passed}
 
 -- an offer's verdict, from that of the tests: they read the place of process p % 32, which is p's where p is a process
 pub offer-asked : (t : ProcessTable) (p : ℕ) (list : GuardList) (formed : Bool) (verdict : Verdict) → formed ≡ wellFormed t
-    → verdict ≡ require formed Malformed (require (ltb p (t .n)) NoSuchProcess (listVerdict (t .n) p list (stateVerdict (process t (p % 32) .place) (t .next))))
+    → verdict ≡ require formed NotWellFormed (require (ltb p (t .n)) NoSuchProcess (listVerdict (t .n) p list (stateVerdict (process t (p % 32) .place) (t .next))))
     → offerVerdict t p list ≡ verdict
 unfolding offerVerdict
 offer-asked t p list formed verdict e f = go (wellFormed t) refl (ltb p (t .n)) refl ∙ rw (← e) (sym f)
   where
     go : (a : Bool) → wellFormed t ≡ a → (b : Bool) → ltb p (t .n) ≡ b
-        → require a Malformed (require b NoSuchProcess (listVerdict (t .n) p list (stateVerdict (process t p .place) (t .next))))
-        ≡ require a Malformed (require b NoSuchProcess (listVerdict (t .n) p list (stateVerdict (process t (p % 32) .place) (t .next))))
+        → require a NotWellFormed (require b NoSuchProcess (listVerdict (t .n) p list (stateVerdict (process t p .place) (t .next))))
+        ≡ require a NotWellFormed (require b NoSuchProcess (listVerdict (t .n) p list (stateVerdict (process t (p % 32) .place) (t .next))))
     go true e true f = let h : p < 32 = omega (arith, ltb-true p (t .n) f, formed-most t e) in rw (mod-eq-of-lt h)
     go true e false f = refl
     go false e b f = refl
 
 pub offer-accepts : (t : ProcessTable) (p : ℕ) (list : GuardList) (y : Process) → offerVerdict t p list ≡ Accepted → y ≡ entering (process t (p % 32)) (t .next) list
-    → record { answer = Offered (t .next); table = record { n = t .n; next = record { 0 = t .next .0 + 1 }; processes = set (t .processes) (p % 32) y } } ≡ offer t p list
-unfolding offer offered
+    → record { answer = Offered (t .next); table = record { n = t .n; next = record { 0 = t .next .0 + 1 }; processes = set (t .processes) (p % 32) y } } ≡ offerList t p list
+unfolding offerList offered
 offer-accepts t p list y e f =
     let a = offer-passed t p list e in
     let h : p < 32 = omega (arith, a .below, formed-most t (a .formed)) in

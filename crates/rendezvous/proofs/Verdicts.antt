@@ -10,14 +10,14 @@ use lib.Dec.{ltb, leb}
 use borrow.Author.Tests.{ltb-true, leb-true}
 use Rattle.alternative.specs.declared.Guard.{Guard}
 use Rattle.alternative.specs.declared.GuardList.{GuardList}
-use Rattle.alternative.specs.Guards.{anyGuard}
+use Rattle.alternative.specs.Guards.{mostGuards, anyGuard}
 use Rattle.alternative.specs.Exchange.{actionHoldsNan}
 use Rattle.rendezvous.specs.declared.ProcessTable.{ProcessTable}
 use Rattle.rendezvous.specs.declared.Refusal.{Refusal}
-use Rattle.rendezvous.specs.declared.Refusal.the-variants.{Malformed, NoSuchProcess, GuardCount, Partner, NotANumber, NoneEnabled, NotIdle, LastTransaction}
+use Rattle.rendezvous.specs.declared.Refusal.the-variants.{NotWellFormed, NoSuchProcess, GuardCount, Partner, NotANumber, NoneEnabled, NotIdle, LastTransaction}
 use Rattle.rendezvous.specs.declared.Verdict.{Verdict}
 use Rattle.rendezvous.specs.declared.Verdict.the-variants.{Accepted, Refused}
-use Rattle.rendezvous.specs.Table.{mostGuards, lastTransaction, process}
+use Rattle.rendezvous.specs.Table.{lastTransaction, process}
 use Rattle.rendezvous.specs.WellFormed.{allGuards, partnerFits, wellFormed}
 use Rattle.rendezvous.proofs.Forms.{and-parts}
 use Rattle.rendezvous.specs.Refusals.{require, isIdle, requireGuards, processVerdict, listVerdict, stateVerdict, offerVerdict}
@@ -51,7 +51,7 @@ pub record Named (t : ProcessTable) (p : ℕ) : Type 0 where
 pub process-passed : (t : ProcessTable) (p : ℕ) → processVerdict t p ≡ Accepted → Named t p
 unfolding processVerdict
 process-passed t p e =
-    let a = passed (wellFormed t) Malformed _ e in
+    let a = passed (wellFormed t) NotWellFormed _ e in
     let b = passed (ltb p (t .n)) NoSuchProcess _ (a .1) in
     record { formed = a .0; below = ltb-true p (t .n) (b .0) }
 
@@ -68,7 +68,7 @@ pub record Admitted (t : ProcessTable) (p : ℕ) (list : GuardList) : Type 0 whe
 pub offer-passed : (t : ProcessTable) (p : ℕ) (list : GuardList) → offerVerdict t p list ≡ Accepted → Admitted t p list
 unfolding offerVerdict listVerdict stateVerdict
 offer-passed t p list e =
-    let a = passed (wellFormed t) Malformed _ e in
+    let a = passed (wellFormed t) NotWellFormed _ e in
     let b = passed (ltb p (t .n)) NoSuchProcess _ (a .1) in
     let c = passed (leb 1 (list .count) && leb (list .count) mostGuards) GuardCount _ (b .1) in
     let d = guards-passed (t .n) p (take (list .count) (list .guards)) _ (c .1) in

@@ -1,3 +1,4 @@
+pub mod Types
 pub mod Table
 pub mod Rules
 pub mod WellFormed

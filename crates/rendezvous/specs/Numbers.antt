@@ -1,18 +1,13 @@
--- To be believed. Document 01's numbers and letters for what the calls answer.
+-- To be believed. Document 01's numbers and letters for each case of an answer.
 use Prim.Native.Nat.{ℕ}
-use mathlib.Core.Option.{Option, some, none}
-use Rattle.alternative.specs.declared.Message.{Message}
-use Rattle.rendezvous.specs.declared.Place.{Place}
-use Rattle.rendezvous.specs.declared.Place.the-variants.{Idle, Entering, Scanning, Trying, Committed, Posting, Opening, Showing, Asleep, Waiting, Met}
-use Rattle.rendezvous.specs.declared.Refusal.{Refusal}
-use Rattle.rendezvous.specs.declared.Refusal.the-variants.{ProcessCount, Malformed, NoSuchProcess, GuardCount, Partner, NotANumber, NoneEnabled, NotIdle, LastTransaction, NotMet}
-use Rattle.rendezvous.specs.declared.Answer.{Answer}
-use Rattle.rendezvous.specs.declared.Answer.the-variants.{Made, Offered, Moved, Unchanged, Collected, Runnable, Refused}
+use mathlib.Core.Option.{Option}
+use Rattle.rendezvous.specs.Types.{Message, Place, Idle, Entering, Scanning, Trying, Committed, Posting, Opening, Showing, Asleep, Waiting, Met, Refusal, ProcessCount, NotWellFormed, NoSuchProcess, GuardCount, Partner, NotANumber, NoneEnabled, NotIdle, LastTransaction, NotMet, Answer, Made, Offered, Moved, Unchanged, Collected, Runnable}
+use Rattle.rendezvous.specs.Table.{indexOf}
 
 -- "What turns a call away"
 abbrev pub refusalNumber : Refusal → ℕ
 refusalNumber ProcessCount = 1
-refusalNumber Malformed = 7
+refusalNumber NotWellFormed = 7
 refusalNumber NoSuchProcess = 2
 refusalNumber GuardCount = 3
 refusalNumber Partner = 4
@@ -22,7 +17,6 @@ refusalNumber NotIdle = 11
 refusalNumber LastTransaction = 12
 refusalNumber NotMet = 13
 
--- the letters, as the script writes them: capitals of ASCII
 pub data Letter : Type 0 where
   I E A T C P O H S W M : Letter
 
@@ -39,21 +33,7 @@ letterOf Asleep = S
 letterOf Waiting = W
 letterOf (Met i m) = M
 
--- "A, T and C carry the index of a guard."
-abbrev pub indexOf : Place → Option ℕ
-indexOf (Scanning i) = some i
-indexOf (Trying i) = some i
-indexOf (Committed i j) = some i
-indexOf Idle = none
-indexOf Entering = none
-indexOf Posting = none
-indexOf Opening = none
-indexOf Showing = none
-indexOf Asleep = none
-indexOf Waiting = none
-indexOf (Met i m) = none
-
--- What an answer says, in document 01's numbers and letters.
+-- What an answer says: a place by its letter, "with the guard index at A, T and C"; an outcome by guard index, partner and message.
 pub data Said : Type 0 where
   made : Said
   ticket : ℕ → Said
@@ -70,4 +50,4 @@ said (Moved at) = place (letterOf at) (indexOf at)
 said Unchanged = same
 said (Collected i q m) = outcome i q m
 said (Runnable set) = movers set
-said (Refused r) = refusal (refusalNumber r)
+said (Answer.Refused r) = refusal (refusalNumber r)

@@ -1,28 +1,19 @@
--- To be believed. Document 01, "What turns a call away": the conditions, call by call, in their order.
+-- To be believed. Document 01, "What turns a call away": what each call is tested for, in order. 13, of a collection alone, is in Calls.
 use Prim.Native.Nat.{ℕ}
 use mathlib.Core.Bool.{Bool, true, false, not, _&&_}
 use mathlib.Core.List.{List, [], _∷_}
 use lib.ListN.{take}
-use lib.Dec.{ltb, leb, eqb}
-use Rattle.alternative.specs.declared.Guard.{Guard}
-use Rattle.alternative.specs.declared.GuardList.{GuardList}
-use Rattle.alternative.specs.Guards.{anyGuard}
+use lib.Dec.{ltb, leb}
+use Rattle.alternative.specs.Guards.{mostGuards, anyGuard}
 use Rattle.alternative.specs.Exchange.{actionHoldsNan}
-use Rattle.rendezvous.specs.declared.TransactionId.{TransactionId}
-use Rattle.rendezvous.specs.declared.Place.{Place}
-use Rattle.rendezvous.specs.declared.Place.the-variants.{Idle, Entering, Scanning, Trying, Committed, Posting, Opening, Showing, Asleep, Waiting, Met}
-use Rattle.rendezvous.specs.declared.ProcessTable.{ProcessTable}
-use Rattle.rendezvous.specs.declared.Refusal.{Refusal}
-use Rattle.rendezvous.specs.declared.Refusal.the-variants.{ProcessCount, Malformed, NoSuchProcess, GuardCount, Partner, NotANumber, NoneEnabled, NotIdle, LastTransaction}
-use Rattle.rendezvous.specs.declared.Verdict.{Verdict}
-use Rattle.rendezvous.specs.declared.Verdict.the-variants.{Accepted, Refused}
-use Rattle.rendezvous.specs.Table.{mostGuards, lastTransaction, process}
+use Rattle.rendezvous.specs.Types.{Guard, GuardList, TransactionId, Place, Idle, Entering, Scanning, Trying, Committed, Posting, Opening, Showing, Asleep, Waiting, Met, ProcessTable, Refusal, ProcessCount, NotWellFormed, NoSuchProcess, GuardCount, Partner, NotANumber, NoneEnabled, NotIdle, LastTransaction, Verdict, Accepted}
+use Rattle.rendezvous.specs.Table.{lastTransaction, process}
 use Rattle.rendezvous.specs.WellFormed.{countFits, partnerFits, wellFormed}
 
--- one test of a list in order: what fails it is refused, what passes it goes on to the rest
+-- one test: what fails it is refused, what passes it goes on to the rest
 abbrev pub require : Bool → Refusal → Verdict → Verdict
 require true refusal rest = rest
-require false refusal rest = Refused refusal
+require false refusal rest = Verdict.Refused refusal
 
 abbrev pub isIdle : Place → Bool
 isIdle Idle = true
@@ -37,7 +28,19 @@ isIdle Asleep = false
 isIdle Waiting = false
 isIdle (Met i m) = false
 
--- "4, then 5, guard by guard": then the rest
+-- a new table of n processes: 1
+unfoldable pub createVerdict : ℕ → Verdict
+createVerdict n = require (countFits n) ProcessCount Accepted
+
+-- movers: 7
+unfoldable pub tableVerdict : ProcessTable → Verdict
+tableVerdict t = require (wellFormed t) NotWellFormed Accepted
+
+-- a step or a collection by process p: 7, 2
+unfoldable pub processVerdict : ProcessTable → ℕ → Verdict
+processVerdict t p = require (wellFormed t) NotWellFormed (require (ltb p (t .n)) NoSuchProcess Accepted)
+
+-- an offer: "4, then 5, guard by guard" ..
 unfoldable pub requireGuards : ℕ → ℕ → List Guard → Verdict → Verdict
 requireGuards n p [] rest = rest
 requireGuards n p (g ∷ gs) rest =
@@ -45,19 +48,7 @@ requireGuards n p (g ∷ gs) rest =
     (require (not (actionHoldsNan (g .action))) NotANumber
     (requireGuards n p gs rest))
 
--- a new table of n processes: 1
-unfoldable pub createVerdict : ℕ → Verdict
-createVerdict n = require (countFits n) ProcessCount Accepted
-
--- movers: 7
-unfoldable pub tableVerdict : ProcessTable → Verdict
-tableVerdict t = require (wellFormed t) Malformed Accepted
-
--- a step of process p, or a collection from it: 7, then 2 (a collection is then refused by 13, from the state)
-unfoldable pub processVerdict : ProcessTable → ℕ → Verdict
-processVerdict t p = require (wellFormed t) Malformed (require (ltb p (t .n)) NoSuchProcess Accepted)
-
--- an offer of a list by process p: 7 and 2; of the list 3, then 4 and 5, then 6; and from the state 11 and 12
+-- .. with 3 before and 6 after them ..
 unfoldable pub listVerdict : ℕ → ℕ → GuardList → Verdict → Verdict
 listVerdict n p list rest =
     let gs = take (list .count) (list .guards) in
@@ -65,12 +56,14 @@ listVerdict n p list rest =
     (requireGuards n p gs
     (require (anyGuard (λ g. g .enabled) gs) NoneEnabled rest))
 
+-- .. and from the state 11, then 12
 unfoldable pub stateVerdict : Place → TransactionId → Verdict
 stateVerdict place next = require (isIdle place) NotIdle (require (ltb (next .0) lastTransaction) LastTransaction Accepted)
 
+-- the whole: 7, 2, 3, 4 and 5, 6, 11, 12
 unfoldable pub offerVerdict : ProcessTable → ℕ → GuardList → Verdict
 offerVerdict t p list =
-    require (wellFormed t) Malformed
+    require (wellFormed t) NotWellFormed
     (require (ltb p (t .n)) NoSuchProcess
     (listVerdict (t .n) p list
     (stateVerdict (process t p .place) (t .next))))

@@ -1,26 +1,16 @@
--- To be believed. Document 01, "The desk and its tasks": the words, the lists, the records, a fresh desk, and open offers.
+-- To be believed. Document 01, "The desk and its tasks": words, records, lists, a fresh desk; and from "Calls": open offers.
 use Prim.Native.Nat.{ℕ}
-use mathlib.Core.Bool.{Bool, true, false}
+use mathlib.Core.Bool.{Bool, true, false, _&&_}
 use mathlib.Core.List.{List, []}
+use mathlib.Core.Option.{Option, some, none}
 use lib.ListN.{getD, set, take, replicate}
-use Rattle.alternative.specs.declared.Guard.{Guard}
-use Rattle.alternative.specs.Guards.{blank}
-use Rattle.rendezvous.specs.declared.TransactionId.{TransactionId}
-use Rattle.rendezvous.specs.declared.Signal.{Signal}
-use Rattle.rendezvous.specs.declared.Signal.the-variants.{Absent, Present}
-use Rattle.rendezvous.specs.declared.Place.{Place}
-use Rattle.rendezvous.specs.declared.Place.the-variants.{Idle, Entering, Scanning, Trying, Committed, Posting, Opening, Showing, Asleep, Waiting, Met}
-use Rattle.rendezvous.specs.declared.State.{State}
-use Rattle.rendezvous.specs.declared.State.the-variants.{Running, Alt, Sleeping}
-use Rattle.rendezvous.specs.declared.Process.{Process}
-use Rattle.rendezvous.specs.declared.ProcessTable.{ProcessTable}
+use lib.Dec.{ltb}
+use Rattle.alternative.specs.Guards.{mostGuards, blank}
+use Rattle.rendezvous.specs.Types.{Guard, Absent, Place, Idle, Entering, Scanning, Trying, Committed, Posting, Opening, Showing, Asleep, Waiting, Met, State, Running, Alt, Sleeping, Process, ProcessTable}
 
--- "n from 2 to 32"; the most guards in a list; the ticket that is never given out
+-- the most processes, and the ticket that is never given out
 abbrev pub mostProcesses : ℕ
 mostProcesses = 32
-
-abbrev pub mostGuards : ℕ
-mostGuards = 8
 
 abbrev pub lastTransaction : ℕ
 lastTransaction = 4294967295
@@ -39,6 +29,20 @@ stateOf Showing = Alt
 stateOf Asleep = Sleeping
 stateOf Waiting = State.Waiting
 
+-- "A, T and C carry the index of a guard."
+abbrev pub indexOf : Place → Option ℕ
+indexOf (Scanning i) = some i
+indexOf (Trying i) = some i
+indexOf (Committed i j) = some i
+indexOf Idle = none
+indexOf Entering = none
+indexOf Posting = none
+indexOf Opening = none
+indexOf Showing = none
+indexOf Asleep = none
+indexOf Waiting = none
+indexOf (Met i m) = none
+
 -- a process's own list and its posted list, and guard i of each
 abbrev pub ownList : Process → List Guard
 ownList x = take (x .count) (x .guards)
@@ -52,7 +56,7 @@ ownGuard x i = getD (ownList x) i blank
 abbrev pub postedGuard : Process → ℕ → Guard
 postedGuard x i = getD (postedList x) i blank
 
--- the record of process p, and the table with another record there
+-- the record of process p, and the table with another record there; outside the table stands a process at I with empty lists, which no call acts on
 abbrev pub nobody : Process
 nobody = record { place = Idle; signal = Absent; transaction = record { 0 = 0 }; accepting = false; count = 0; altcount = 0; guards = []; altlist = [] }
 
@@ -64,21 +68,12 @@ put t p x = record { n = t .n; next = t .next; processes = set (t .processes) p 
 
 -- "A fresh desk has every party at I, own and posted lists empty, wake counts 1, no signals, every party's ticket and the next ticket 0."
 abbrev pub freshProcess : Process
-freshProcess = record {
-  place = Idle;
-  signal = Absent;
-  transaction = record { 0 = 0 };
-  accepting = false;
-  count = 0;
-  altcount = 0;
-  guards = replicate mostGuards blank;
-  altlist = replicate mostGuards blank;
-}
+freshProcess = let blanks = replicate mostGuards blank in record { place = Idle; signal = Absent; transaction = record { 0 = 0 }; accepting = false; count = 0; altcount = 0; guards = blanks; altlist = blanks }
 
 abbrev pub freshTable : ℕ → ProcessTable
 freshTable n = record { n = n; next = record { 0 = 0 }; processes = replicate mostProcesses freshProcess }
 
--- "the open offers are those of parties at E, A, T, P, O or S, or at H or W with wake count 0"
+-- "On any desk, reached or damaged, the open offers are those of parties at E, A, T, P, O or S, or at H or W with wake count 0."
 abbrev pub openAt : Place → Bool → Bool
 openAt Entering accepting = true
 openAt (Scanning i) accepting = true
@@ -94,3 +89,6 @@ openAt (Met i m) accepting = false
 
 abbrev pub isOpen : Process → Bool
 isOpen x = openAt (x .place) (x .accepting)
+
+abbrev pub hasOpenOffer : ProcessTable → ℕ → Bool
+hasOpenOffer t p = ltb p (t .n) && isOpen (process t p)

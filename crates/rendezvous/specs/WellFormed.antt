@@ -1,17 +1,12 @@
--- To be believed. Document 01, "What turns a call away", refusal 7: a table in form.
+-- To be believed. Document 01, "What turns a call away", refusal 7: it is given exactly where `wellFormed` is false. The quoted conditions are those that fail.
 use Prim.Native.Nat.{ℕ, zero, suc}
-use mathlib.Core.Bool.{Bool, true, false, not, _&&_}
+use mathlib.Core.Bool.{Bool, true, not, _&&_}
 use mathlib.Core.List.{List, [], _∷_}
 use lib.ListN.{take}
 use lib.Dec.{ltb, leb, eqb}
-use Rattle.alternative.specs.declared.Guard.{Guard}
-use Rattle.rendezvous.specs.declared.Signal.{Signal}
-use Rattle.rendezvous.specs.declared.Signal.the-variants.{Absent, Present}
-use Rattle.rendezvous.specs.declared.Place.{Place}
-use Rattle.rendezvous.specs.declared.Place.the-variants.{Idle, Entering, Scanning, Trying, Committed, Posting, Opening, Showing, Asleep, Waiting, Met}
-use Rattle.rendezvous.specs.declared.Process.{Process}
-use Rattle.rendezvous.specs.declared.ProcessTable.{ProcessTable}
-use Rattle.rendezvous.specs.Table.{mostProcesses, mostGuards, process}
+use Rattle.alternative.specs.Guards.{mostGuards}
+use Rattle.rendezvous.specs.Types.{Guard, Signal, Absent, Present, Place, Idle, Entering, Scanning, Trying, Committed, Posting, Opening, Showing, Asleep, Waiting, Met, Process, ProcessTable}
+use Rattle.rendezvous.specs.Table.{mostProcesses, process}
 use Rattle.rendezvous.specs.Rules.{partnerOf}
 
 -- every guard of a list passes a test; every number below n does
@@ -23,45 +18,45 @@ unfoldable pub allBelow : (ℕ → Bool) → ℕ → Bool
 allBelow test zero = true
 allBelow test (suc n) = allBelow test n && test n
 
--- "its n is outside 2 to 32"
+-- not "its n is outside 2 to 32"
 unfoldable pub countFits : ℕ → Bool
 countFits n = leb 2 n && leb n mostProcesses
 
--- "a guard names its own party or one not below n"
+-- not "a guard names its own party or one not below n"
 unfoldable pub partnerFits : ℕ → ℕ → Guard → Bool
 partnerFits n p g = not (eqb (g .partner) p) && ltb (g .partner) n
 
--- "a list or posted list has over eight guards": the first count of the slots are process p's
+-- not "a list or posted list has over eight guards", and each of them fits
 unfoldable pub listFits : ℕ → ℕ → ℕ → List Guard → Bool
 listFits n p count guards = leb count mostGuards && allGuards (partnerFits n p) (take count guards)
 
--- "the index in .. a signal .. has no guard in that party's own list", a list of count guards
+-- not "the index in .. a signal .. has no guard in that party's own list", a list of count guards
 abbrev pub signalFits : ℕ → Signal → Bool
 signalFits count Absent = true
 signalFits count (Present j m) = ltb j count
 
--- "the index in A, T, C, .. or an outcome has no guard in that party's own list (not the posted one), or a kept index none in the partner's posted list":
--- lists of count and of altcount guards
+-- not "the index in A, T, C, .. or an outcome has no guard in that party's own list (not the posted one), or a kept index none in the partner's posted list", a list
+-- of partnerPosted guards
 abbrev pub placeFits : ℕ → ℕ → Place → Bool
-placeFits count altcount (Scanning i) = ltb i count
-placeFits count altcount (Trying i) = ltb i count
-placeFits count altcount (Committed i j) = ltb i count && ltb j altcount
-placeFits count altcount (Met i m) = ltb i count
-placeFits count altcount Idle = true
-placeFits count altcount Entering = true
-placeFits count altcount Posting = true
-placeFits count altcount Opening = true
-placeFits count altcount Showing = true
-placeFits count altcount Asleep = true
-placeFits count altcount Waiting = true
+placeFits count partnerPosted (Scanning i) = ltb i count
+placeFits count partnerPosted (Trying i) = ltb i count
+placeFits count partnerPosted (Committed i j) = ltb i count && ltb j partnerPosted
+placeFits count partnerPosted (Met i m) = ltb i count
+placeFits count partnerPosted Idle = true
+placeFits count partnerPosted Entering = true
+placeFits count partnerPosted Posting = true
+placeFits count partnerPosted Opening = true
+placeFits count partnerPosted Showing = true
+placeFits count partnerPosted Asleep = true
+placeFits count partnerPosted Waiting = true
 
--- process p with record x, whose partner at A, T or C has posted altcount guards
+-- process p with record x
 unfoldable pub processFits : ℕ → ℕ → Process → ℕ → Bool
-processFits n p x altcount =
+processFits n p x partnerPosted =
     listFits n p (x .count) (x .guards)
     && (listFits n p (x .altcount) (x .altlist)
     && (signalFits (x .count) (x .signal)
-    && placeFits (x .count) altcount (x .place)))
+    && placeFits (x .count) partnerPosted (x .place)))
 
 unfoldable pub fitsAt : ProcessTable → ℕ → Bool
 fitsAt t p = let x = process t p in processFits (t .n) p x (process t (partnerOf x) .altcount)

@@ -68,7 +68,7 @@ pub struct ProcessTable {
 // Why a call is turned away. The definition `refusalNumber` gives document 01's number of each.
 pub enum Refusal {
     ProcessCount,
-    Malformed,
+    NotWellFormed,
     NoSuchProcess,
     GuardCount,
     Partner,

@@ -19,7 +19,7 @@ ghost use Prim.Native.Nat.{_≤_};
 ghost use lib.ListN.{take};
 ghost use lib.Dec.{ltb};
 ghost use Rattle.rendezvous.specs.Refusals.{require, requireGuards, listVerdict, stateVerdict};
-ghost use Rattle.rendezvous.specs.Calls.{entering, offer};
+ghost use Rattle.rendezvous.specs.Calls.{entering, offerList};
 
 // 4, then 5, guard by guard.
 fn guards_verdict(n: u8, p: u8, guards: [Guard; 8], count: usize) -> Verdict
@@ -111,10 +111,10 @@ fn offer_verdict(
     place: Place,
     next: TransactionId,
 ) -> Verdict
-    ensures { λ r. ⌜ r ≡ require formed Refusal.Malformed (require (ltb p n) Refusal.NoSuchProcess (listVerdict n p list (stateVerdict place next))) ⌝ }
+    ensures { λ r. ⌜ r ≡ require formed Refusal.NotWellFormed (require (ltb p n) Refusal.NoSuchProcess (listVerdict n p list (stateVerdict place next))) ⌝ }
 {
     if !formed {
-        return Verdict::Refused(Refusal::Malformed);
+        return Verdict::Refused(Refusal::NotWellFormed);
     }
     if n <= p {
         return Verdict::Refused(Refusal::NoSuchProcess);
@@ -127,8 +127,8 @@ fn offer_verdict(
 
 impl ProcessTable {
     // Offers a list for process p, and gives the offer's ticket.
-    pub fn offer(self, p: u8, list: GuardList) -> Reply
-        ensures { λ r. ⌜ r ≡ offer self p list ⌝ }
+    pub fn offer_list(self, p: u8, list: GuardList) -> Reply
+        ensures { λ r. ⌜ r ≡ offerList self p list ⌝ }
     {
         let mut t = self;
         let i = (p % 32) as usize;
