@@ -1,5 +1,9 @@
 pub mod Below
 pub mod Forms
 pub mod Lengths
+pub mod Movers
 pub mod Offers
+pub mod Rules
+pub mod Sets
+pub mod Steps
 pub mod Verdicts

@@ -11,6 +11,7 @@ use Rattle.alternative.specs.declared.GuardList.{GuardList}
 use Rattle.rendezvous.specs.declared.Process.{Process}
 use Rattle.rendezvous.specs.declared.ProcessTable.{ProcessTable}
 use Rattle.rendezvous.specs.declared.Answer.the-variants.{Offered}
+use Rattle.rendezvous.specs.declared.Refusal.{Refusal}
 use Rattle.rendezvous.specs.declared.Refusal.the-variants.{NotWellFormed, NoSuchProcess}
 use Rattle.rendezvous.specs.declared.Reply.{Reply}
 use Rattle.rendezvous.specs.declared.Verdict.{Verdict}
@@ -18,7 +19,7 @@ use Rattle.rendezvous.specs.declared.Verdict.the-variants.{Accepted}
 use Rattle.rendezvous.specs.Table.{process}
 use Rattle.rendezvous.specs.WellFormed.{wellFormed}
 use Rattle.rendezvous.specs.Refusals.{require, listVerdict, stateVerdict, offerVerdict}
-use Rattle.rendezvous.specs.Calls.{entering, offered, offerList}
+use Rattle.rendezvous.specs.Calls.{refused, entering, offered, offerList}
 use Rattle.rendezvous.proofs.Forms.{formed-most}
 use Rattle.rendezvous.proofs.Verdicts.{offer-passed}
 
@@ -43,3 +44,7 @@ offer-accepts t p list y e f =
     let a = offer-passed t p list e in
     let h : p < 32 = omega (arith, a .below, formed-most t (a .formed)) in
     rw (e, f, mod-eq-of-lt h)
+
+pub offer-refused : (t : ProcessTable) (p : ℕ) (list : GuardList) (r : Refusal) → offerVerdict t p list ≡ Verdict.Refused r → refused r t ≡ offerList t p list
+unfolding offerList
+offer-refused t p list r e = rw e

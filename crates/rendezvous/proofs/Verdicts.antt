@@ -19,7 +19,7 @@ use Rattle.rendezvous.specs.declared.Verdict.{Verdict}
 use Rattle.rendezvous.specs.declared.Verdict.the-variants.{Accepted, Refused}
 use Rattle.rendezvous.specs.Table.{lastTransaction, process}
 use Rattle.rendezvous.specs.WellFormed.{allGuards, partnerFits, wellFormed}
-use Rattle.rendezvous.proofs.Forms.{and-parts}
+use Rattle.rendezvous.proofs.Below.{and-parts}
 use Rattle.rendezvous.specs.Refusals.{require, isIdle, requireGuards, processVerdict, listVerdict, stateVerdict, offerVerdict}
 
 -- a verdict accepts, or refuses by some refusal

@@ -5,3 +5,4 @@ pub mod WellFormed
 pub mod Refusals
 pub mod Calls
 pub mod Numbers
+pub mod Private

@@ -2,9 +2,13 @@
 use alternative::Guard;
 use alternative::Message;
 
+mod collect;
 mod create;
 mod offer;
 mod places;
+mod rule;
+mod runnable;
+mod step;
 mod well_formed;
 
 // The most processes that a table holds, and the transaction number that is never given out.

@@ -8,7 +8,10 @@ use crate::Refusal;
 use crate::Reply;
 use crate::TransactionId;
 use crate::Verdict;
+use crate::well_formed::count_fits;
 use crate::well_formed::partner_fits;
+use crate::well_formed::posted_by;
+use crate::well_formed::process_fits;
 use alternative::Guard;
 use alternative::GuardList;
 use alternative::action_holds_nan;
@@ -131,12 +134,23 @@ impl ProcessTable {
         ensures { λ r. ⌜ r ≡ offerList self p list ⌝ }
     {
         let mut t = self;
+        let n = t.n;
+        let mut formed = count_fits(n);
+        let mut k: u8 = 0;
+        while k < n {
+            let at = (k % 32) as usize;
+            let z = t.processes[at];
+            let named = z.partner();
+            let there = (named % 32) as usize;
+            let posted = t.processes[there].altcount;
+            formed = formed & process_fits(n, k, z, posted_by(named, posted));
+            k = k + 1;
+        }
         let i = (p % 32) as usize;
         let x = t.processes[i];
         let place = x.place;
         let next = t.next;
-        let verdict = offer_verdict(t.well_formed(), t.n, p, list, place, next);
-        match verdict {
+        match offer_verdict(formed, n, p, list, place, next) {
             Verdict::Refused(refusal) => Reply {
                 answer: Answer::Refused(refusal),
                 table: t,

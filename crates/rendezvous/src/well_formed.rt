@@ -3,10 +3,14 @@ use crate::MOST_PROCESSES;
 use crate::Place;
 use crate::Process;
 use crate::ProcessTable;
+use crate::Refusal;
 use crate::Signal;
+use crate::Verdict;
 use alternative::Guard;
 ghost use mathlib.Core.Path.{_≡_};
-ghost use Rattle.rendezvous.specs.Table.{process};
+ghost use mathlib.Core.Bool.{cond};
+ghost use lib.Dec.{ltb};
+ghost use Rattle.rendezvous.specs.Refusals.{require};
 ghost use Rattle.rendezvous.specs.WellFormed.{countFits, partnerFits, listFits, signalFits, placeFits, processFits, wellFormed};
 
 pub fn count_fits(n: u8) -> bool
@@ -66,7 +70,7 @@ fn place_fits(count: u8, altcount: u8, place: Place) -> bool
     }
 }
 
-fn process_fits(n: u8, p: u8, x: Process, altcount: u8) -> bool
+pub fn process_fits(n: u8, p: u8, x: Process, altcount: u8) -> bool
     ensures { λ r. ⌜ r ≡ processFits n p x altcount ⌝ }
 {
     let guards = x.guards;
@@ -78,36 +82,44 @@ fn process_fits(n: u8, p: u8, x: Process, altcount: u8) -> bool
             & (signal_fits(x.count, signal) & place_fits(x.count, altcount, place)))
 }
 
-impl ProcessTable {
-    // How many guards process p has posted: none outside the table.
-    fn altcount_of(self, p: u8) -> u8
-        ensures { λ r. ⌜ r ≡ process self p .altcount ⌝ }
-    {
-        let i = p as usize;
-        if i < 32 {
-            self.processes[i].altcount
-        } else {
-            0
-        }
-    }
+// How many guards process q has posted, where `posted` is the count of the record at q % 32: none outside the table.
+pub fn posted_by(q: u8, posted: u8) -> u8
+    ensures { λ r. ⌜ r ≡ cond (ltb q 32) posted 0 ⌝ }
+{
+    if q < 32 { posted } else { 0 }
+}
 
+impl ProcessTable {
+    // The calls have this loop written out: each use of the table as a parameter would be two more copies of it.
     pub fn well_formed(self) -> bool
         ensures { λ r. ⌜ r ≡ wellFormed self ⌝ }
     {
         let n = self.n;
-        if !count_fits(n) {
-            return false;
+        let mut formed = count_fits(n);
+        let mut k: u8 = 0;
+        while k < n {
+            let at = (k % 32) as usize;
+            let x = self.processes[at];
+            let q = x.partner();
+            let named = (q % 32) as usize;
+            let posted = self.processes[named].altcount;
+            formed = formed & process_fits(n, k, x, posted_by(q, posted));
+            k = k + 1;
         }
-        let mut p: u8 = 0;
-        while p < n {
-            let i = p as usize;
-            let x = self.processes[i];
-            let altcount = self.altcount_of(x.partner());
-            if !process_fits(n, p, x, altcount) {
-                return false;
-            }
-            p = p + 1;
-        }
-        true
+        formed
+    }
+}
+
+// 7, then 2: `formed` says whether the table of n is well-formed.
+pub fn process_verdict(formed: bool, n: u8, p: u8) -> Verdict
+    ensures { λ r. ⌜ r ≡ require formed Refusal.NotWellFormed (require (ltb p n) Refusal.NoSuchProcess Verdict.Accepted) ⌝ }
+{
+    if !formed {
+        return Verdict::Refused(Refusal::NotWellFormed);
+    }
+    if p < n {
+        Verdict::Accepted
+    } else {
+        Verdict::Refused(Refusal::NoSuchProcess)
     }
 }

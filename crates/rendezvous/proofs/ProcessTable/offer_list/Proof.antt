@@ -1,48 +1,93 @@
-use mathlib.Core.Path.{_≡_, sym, _∙_}
+use Prim.Native.Nat.{_≤_, _-_}
+use mathlib.Core.Path.{_≡_, _∙_}
+use mathlib.Core.Bool.{_&&_}
 use native.Mathlib.Omega.{arith}
 use borrow.Author.Needs.{needs}
-use Rattle.rendezvous.specs.Calls.{offerList}
-use Rattle.rendezvous.proofs.Offers.{offer-asked, offer-accepts}
+use lib.ListN.{length}
+use Rattle.rendezvous.specs.WellFormed.{allBelow, countFits, fitsAt}
+use Rattle.rendezvous.proofs.Forms.{formed-start, formed-more, formed-end}
+use Rattle.rendezvous.proofs.Lengths.{length-mapped}
+use Rattle.rendezvous.proofs.Offers.{offer-asked, offer-accepts, offer-refused}
 use Rattle.rendezvous.proofs.Verdicts.{offer-passed}
 use Rattle.rendezvous.proofs.ProcessTable.offer_list.Statement.{statement}
 use Rattle.rendezvous.proofs.ProcessTable.offer_list.Tie as tie
 
-entered-requires : tie.Need-entered-requires
+abbrev Inv-loop : tie.InvT-loop
+Inv-loop p list t n formed₀ k₀ formed k = (k ≤ n) × (length (t .processes) ≡ 32) × (formed ≡ (countFits n && allBelow (fitsAt t) k))
+
+abbrev μ-loop : tie.MeasureT-loop
+μ-loop p list t n formed₀ k₀ formed k = n - k
+
+loop-holds : tie.Need-loop-holds Inv-loop μ-loop
+loop-holds c = (omega arith, search length-mapped, formed-start _ _ _ (c .count-fits .ensures))
+
+loop-again : tie.Need-loop-again Inv-loop μ-loop
+loop-again c =
+    let l = c .before .before .before .before .before in (
+      omega arith,
+      l .loop .inv .1,
+      formed-more _ (l .loop .k) _ _ _ _ (l .loop .inv .1) (omega arith) (l .loop .inv .2) (c .before .before .partner .ensures) (c .before .posted-by .ensures) (c .process-fits .ensures),
+    )
+
+-- the verdict of the tests is that of the offer
+entered-requires : tie.Need-entered-requires Inv-loop μ-loop
 entered-requires c κs =
     let v = c .before .before in
-    offer-passed _ _ _ (offer-asked _ _ _ _ _ (v .before .well-formed .ensures) (v .offer-verdict .ensures) ∙ c .enum-told .given .1) .most
+    let l = v .before .before .before .before in
+    let formed = formed-end _ (l .loop .k) _ (omega arith) (l .loop .inv .2) in
+    offer-passed _ _ _ (offer-asked _ _ _ _ _ formed (v .offer-verdict .ensures) ∙ c .enum-told .given .1) .most
 
-add-t23 : tie.Need-add-t23
-add-t23 c =
+add-next : tie.Need-add-t37 Inv-loop μ-loop
+add-next c =
     let v = c .before .before .before .before in
-    let a = offer-passed _ _ _ (offer-asked _ _ _ _ _ (v .before .well-formed .ensures) (v .offer-verdict .ensures) ∙ c .before .before .enum-told .given .1) in
+    let l = v .before .before .before .before in
+    let formed = formed-end _ (l .loop .k) _ (omega arith) (l .loop .inv .2) in
+    let a = offer-passed _ _ _ (offer-asked _ _ _ _ _ formed (v .offer-verdict .ensures) ∙ c .before .before .enum-told .given .1) in
     omega (arith, a .left)
 
-returns : tie.Need-returns
-unfolding offerList
+returns : tie.Need-returns Inv-loop μ-loop
 returns c =
     let v = c .before .before .before in
-    rw (offer-asked _ _ _ _ _ (v .before .well-formed .ensures) (v .offer-verdict .ensures) ∙ c .before .verdict .given .1)
+    let l = v .before .before .before .before in
+    let formed = formed-end _ (l .loop .k) _ (omega arith) (l .loop .inv .2) in
+    offer-refused _ _ _ _ (offer-asked _ _ _ _ _ formed (v .offer-verdict .ensures) ∙ c .before .refusal .given .1)
 
-returns-2 : tie.Need-returns-2
+returns-2 : tie.Need-returns-2 Inv-loop μ-loop
 returns-2 c =
     let v = c .before .before .before .before in
-    offer-accepts _ _ _ _ (offer-asked _ _ _ _ _ (v .before .well-formed .ensures) (v .offer-verdict .ensures) ∙ c .before .before .enum-told .given .1) (c .before .entered .ensures)
+    let l = v .before .before .before .before in
+    let formed = formed-end _ (l .loop .k) _ (omega arith) (l .loop .inv .2) in
+    offer-accepts _ _ _ _ (offer-asked _ _ _ _ _ formed (v .offer-verdict .ensures) ∙ c .before .before .enum-told .given .1) (c .before .entered .ensures)
 
 pub offer-list-spec : {M : Type 1} → statement M
 offer-list-spec =
     tie.close
     (tie.spec
-    (λ c. search needs)
-    (λ c. search needs)
-    (λ c. search needs)
+    Inv-loop
+    μ-loop
     (λ c κs. search needs)
+    loop-holds
+    (λ c. omega arith)
+    (λ c. omega arith)
+    (λ c. omega arith)
+    (λ c κs. search needs)
+    (λ c. omega arith)
+    (λ c. omega arith)
+    (λ c. omega arith)
+    (λ c κs. search needs)
+    (λ c κs. search needs)
+    (λ c. omega arith)
+    (λ c. omega arith)
+    loop-again
+    (λ c. omega arith)
+    (λ c. omega arith)
+    (λ c. omega arith)
     (λ c κs. search needs)
     (λ c. search needs)
     (λ c. search needs)
     entered-requires
-    add-t23
-    (λ c. search needs)
-    (λ c. search needs)
+    add-next
+    (λ c. omega arith)
+    (λ c. omega arith)
     returns
     returns-2)

@@ -1,0 +1,94 @@
+use Prim.Native.Nat.{_≤_, _-_}
+use mathlib.Core.Path.{_≡_, _∙_}
+use mathlib.Core.Bool.{_&&_}
+use native.Mathlib.Omega.{arith}
+use borrow.Author.Needs.{needs}
+use lib.ListN.{length}
+use Rattle.rendezvous.specs.WellFormed.{allBelow, countFits, fitsAt}
+use Rattle.rendezvous.proofs.Forms.{formed-start, formed-more, formed-end}
+use Rattle.rendezvous.proofs.Lengths.{length-mapped}
+use Rattle.rendezvous.proofs.Steps.{process-asked, step-refused, step-moves, step-stays}
+use Rattle.rendezvous.proofs.ProcessTable.step.Statement.{statement}
+use Rattle.rendezvous.proofs.ProcessTable.step.Tie as tie
+
+abbrev Inv-loop : tie.InvT-loop
+Inv-loop p t n formed₀ k₀ formed k = (k ≤ n) × (length (t .processes) ≡ 32) × (formed ≡ (countFits n && allBelow (fitsAt t) k))
+
+abbrev μ-loop : tie.MeasureT-loop
+μ-loop p t n formed₀ k₀ formed k = n - k
+
+loop-holds : tie.Need-loop-holds Inv-loop μ-loop
+loop-holds c = (omega arith, search length-mapped, formed-start _ _ _ (c .count-fits .ensures))
+
+loop-again : tie.Need-loop-again Inv-loop μ-loop
+loop-again c =
+    let l = c .before .before .before .before .before in (
+      omega arith,
+      l .loop .inv .1,
+      formed-more _ (l .loop .k) _ _ _ _ (l .loop .inv .1) (omega arith) (l .loop .inv .2) (c .before .before .partner .ensures) (c .before .posted-by .ensures) (c .process-fits .ensures),
+    )
+
+returns : tie.Need-returns Inv-loop μ-loop
+returns c =
+    let v = c .before .before .before in
+    let l = v .before .before .before .before .before in
+    let formed = formed-end _ (l .loop .k) _ (omega arith) (l .loop .inv .2) in
+    step-refused _ _ _ (process-asked _ _ _ _ formed (v .process-verdict .ensures) ∙ c .before .refusal .given .1)
+
+returns-2 : tie.Need-returns-2 Inv-loop μ-loop
+returns-2 c =
+    let r = c .before .before .before in
+    let v = r .before .before .before in
+    let l = v .before .before .before .before .before in
+    let formed = formed-end _ (l .loop .k) _ (omega arith) (l .loop .inv .2) in
+    let accepted = process-asked _ _ _ _ formed (v .process-verdict .ensures) ∙ r .before .enum-told .given .1 in
+    step-moves _ _ accepted _ (v .before .before .partner2 .ensures) _ (r .rule .ensures) _ (c .before .told .ensures) (c .if1 .taken)
+
+returns-3 : tie.Need-returns-3 Inv-loop μ-loop
+returns-3 c =
+    let r = c .before .before .before in
+    let v = r .before .before .before in
+    let l = v .before .before .before .before .before in
+    let formed = formed-end _ (l .loop .k) _ (omega arith) (l .loop .inv .2) in
+    let accepted = process-asked _ _ _ _ formed (v .process-verdict .ensures) ∙ r .before .enum-told .given .1 in
+    step-stays _ _ accepted _ (v .before .before .partner2 .ensures) _ (r .rule .ensures) (c .if1 .left)
+
+pub step-spec : {M : Type 1} → statement M
+step-spec =
+    tie.close
+    (tie.spec
+    Inv-loop
+    μ-loop
+    (λ c κs. search needs)
+    loop-holds
+    (λ c. omega arith)
+    (λ c. omega arith)
+    (λ c. omega arith)
+    (λ c κs. search needs)
+    (λ c. omega arith)
+    (λ c. omega arith)
+    (λ c. omega arith)
+    (λ c κs. search needs)
+    (λ c κs. search needs)
+    (λ c. omega arith)
+    (λ c. omega arith)
+    loop-again
+    (λ c. omega arith)
+    (λ c. omega arith)
+    (λ c. omega arith)
+    (λ c κs. search needs)
+    (λ c. omega arith)
+    (λ c. omega arith)
+    (λ c. omega arith)
+    (λ c κs. search needs)
+    (λ c. search needs)
+    (λ c. search needs)
+    (λ c κs. search needs)
+    (λ c κs. search needs)
+    (λ c. omega arith)
+    (λ c. omega arith)
+    (λ c. omega arith)
+    (λ c. omega arith)
+    returns
+    returns-2
+    returns-3)

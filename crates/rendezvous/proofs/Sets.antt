@@ -1,0 +1,82 @@
+-- Sets of numbers below n as bits, for any n: `setBelow member n` has bit p exactly where p is below n and a member; and the call that gives such a set.
+use Prim.Native.Nat.{ℕ, suc, zero, _+_, _*_, _^_, _-_, _/_, _%_, _≤_, _<_}
+use mathlib.Core.Path.{_≡_, refl, sym, ap, subst, _∙_}
+use mathlib.Core.Bool.{Bool, true, false, cond}
+use mathlib.Core.Logic.{⊎-elim}
+use native.Mathlib.Nat.{two-pow-succ, one-le-pow, pow-le-pow-right, pow-zero, pow-suc, add-zero, add-suc, mul-one, mul-assoc, add-mul-div-left, add-div-right, div-eq-of-lt, eq-or-lt-of-le, le-of-suc-le-suc, not-suc-le-zero}
+use native.Mathlib.Numerals.{add-one}
+use native.Mathlib.Omega.{arith}
+use Rattle.rendezvous.specs.Types.{ProcessTable, NotWellFormed, Runnable, Reply}
+use Rattle.rendezvous.specs.WellFormed.{wellFormed}
+use Rattle.rendezvous.specs.Refusals.{tableVerdict}
+use Rattle.rendezvous.specs.Calls.{refused, changes, effectOn, setBelow, runnableSet, runnable}
+
+pub set-below : (member : ℕ → Bool) (n : ℕ) → setBelow member n < 2 ^ n
+unfolding setBelow
+set-below member zero = omega arith
+set-below member (suc n) = go (member n) (set-below member n)
+  where
+    go : (b : Bool) → setBelow member n < 2 ^ n → setBelow member n + cond b (2 ^ n) 0 < 2 ^ suc n
+    go true h = omega (arith, two-pow-succ n)
+    go false h = omega (arith, two-pow-succ n)
+
+-- one turn of a loop that adds the next bit, 2 ^ n, where n is a member
+pub bit-more : (n bit : ℕ) → bit ≡ 2 ^ n → bit * 2 ≡ 2 ^ (n + 1)
+bit-more n bit e = rw (e, add-one, pow-suc)
+
+pub set-with : (member : ℕ → Bool) (n set bit : ℕ) → member n ≡ true → set ≡ setBelow member n → bit ≡ 2 ^ n → set + bit ≡ setBelow member (n + 1)
+unfolding setBelow
+set-with member n set bit e f g = rw (add-one, e, f, g)
+
+pub set-without : (member : ℕ → Bool) (n set : ℕ) → member n ≡ false → set ≡ setBelow member n → set ≡ setBelow member (n + 1)
+unfolding setBelow
+set-without member n set e f = rw (add-one, e) (omega (arith, f))
+
+-- the bits of a set: bit p of a number is its quotient by 2 ^ p, modulo 2
+pow-add : (p d : ℕ) → 2 ^ (p + d) ≡ 2 ^ p * 2 ^ d
+pow-add p zero = rw (add-zero, pow-zero, mul-one)
+pow-add p (suc d) = rw (add-suc, pow-suc, pow-suc, pow-add p d, mul-assoc)
+
+positive : (p : ℕ) → 0 < 2 ^ p
+positive p = one-le-pow p 2 (omega arith)
+
+-- the last number's own bit, and a lower one, which the last does not touch
+bit-last : (s p : ℕ) (b : Bool) → s < 2 ^ p → (s + cond b (2 ^ p) 0) / 2 ^ p % 2 ≡ cond b 1 0
+bit-last s p true h = let small : s / 2 ^ p ≡ 0 = div-eq-of-lt h in rw (add-div-right s (positive p), small)
+bit-last s p false h = let small : s / 2 ^ p ≡ 0 = div-eq-of-lt h in rw (add-zero, small)
+
+bit-lower : (s p d : ℕ) (b : Bool) → (s + cond b (2 ^ (p + suc d)) 0) / 2 ^ p % 2 ≡ s / 2 ^ p % 2
+bit-lower s p d true = let q : (s + 2 ^ p * 2 ^ suc d) / 2 ^ p ≡ s / 2 ^ p + 2 ^ suc d = add-mul-div-left s (2 ^ suc d) (positive p) in rw (pow-add p (suc d), q, pow-suc) (omega arith)
+bit-lower s p d false = rw add-zero
+
+pub bit-of : (member : ℕ → Bool) (p n : ℕ) → p < n → setBelow member n / 2 ^ p % 2 ≡ cond (member p) 1 0
+unfolding setBelow
+bit-of member p zero h = absurd (not-suc-le-zero h)
+bit-of member p (suc n) h =
+    ⊎-elim (λ e. rw (← e) (bit-last (setBelow member p) p (member p) (set-below member p)))
+    (λ l.
+    let e : n ≡ p + suc (n - suc p) = omega arith in
+    ap (λ (k : ℕ). (setBelow member n + cond (member n) (2 ^ k) 0) / 2 ^ p % 2) e ∙ bit-lower (setBelow member n) p (n - suc p) (member n) ∙ bit-of member p n l)
+    (eq-or-lt-of-le (le-of-suc-le-suc h))
+
+pub bit-outside : (member : ℕ → Bool) (p n : ℕ) → n ≤ p → setBelow member n / 2 ^ p % 2 ≡ 0
+bit-outside member p n h =
+    let less : setBelow member n < 2 ^ p = omega (arith, set-below member n, pow-le-pow-right {n = 2} (omega arith) h) in
+    let none : setBelow member n / 2 ^ p ≡ 0 = div-eq-of-lt less in
+    rw none
+
+-- a set of at most 32 members, and a bit on the way there, fit
+pub bit-fits : (p : ℕ) → p ≤ 32 → 2 ^ p ≤ 4294967296
+bit-fits p h = pow-le-pow-right (omega arith) h
+
+pub runnable-refused : (t : ProcessTable) → wellFormed t ≡ false → refused NotWellFormed t ≡ runnable t
+unfolding runnable tableVerdict
+runnable-refused t e = rw e
+
+pub runnable-gives : (t : ProcessTable) (set n : ℕ) → wellFormed t ≡ true → n ≡ t .n → set ≡ setBelow (λ p. changes (effectOn t p)) n
+    → record { answer = Runnable set; table = t } ≡ runnable t
+unfolding runnable tableVerdict runnableSet
+runnable-gives t set n e f g = rw (e, g) (ap (λ (k : ℕ). given (setBelow (λ p. changes (effectOn t p)) k)) f)
+  where
+    given : ℕ → Reply
+    given k = record { answer = Runnable k; table = t }

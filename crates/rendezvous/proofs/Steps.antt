@@ -1,0 +1,196 @@
+-- Laws of a step and a collection. The code reads and writes the records at p % 32 and q % 32, which are those of p and its partner where p is a process.
+use Prim.Native.Nat.{ℕ, zero, suc, _<_, _≤_, _%_}
+use mathlib.Core.Path.{_≡_, refl, sym, ap, _∙_}
+use mathlib.Core.Bool.{Bool, true, false, not, _&&_, true≢false, false≢true}
+use mathlib.Core.List.{List, [], _∷_}
+use mathlib.Core.Option.{Option, some, none}
+use native.Mathlib.Nat.{mod-eq-of-lt}
+use native.Mathlib.Omega.{arith}
+use lib.ListN.{getD, set}
+use lib.Seq.{set-getD}
+use lib.Dec.{ltb, leb, eqb}
+use borrow.Author.Tests.{ltb-true}
+use Rattle.alternative.specs.Guards.{mostGuards, blank, firstMatch}
+use Rattle.rendezvous.specs.Types.{Message, Guard, Found, At, Missing, Signal, Absent, Present, Place, Idle, Entering, Scanning, Trying, Committed, Posting, Opening, Showing, Asleep, Waiting, Met, State, Running, Alt, Sleeping, Process, ProcessTable, Refusal, NotWellFormed, NoSuchProcess, NotMet, Verdict, Accepted, Answer, Moved, Unchanged, Collected, Reply}
+use Rattle.rendezvous.specs.declared.rule.Change.{Change}
+use Rattle.rendezvous.specs.Table.{stateOf, indexOf, ownList, postedList, ownGuard, nobody, process, put}
+use Rattle.rendezvous.specs.Rules.{Effect, Neither, Own, Both, changed, atPlace, scanFrom, scan, try, handOver, absorb, ruleAt, rule, namedBy, partnerOf}
+use Rattle.rendezvous.specs.WellFormed.{allGuards, allBelow, partnerFits, listFits, processFits, fitsAt, wellFormed}
+use Rattle.rendezvous.specs.Refusals.{require, processVerdict}
+use Rattle.rendezvous.specs.Calls.{refused, effectOn, applied, stepped, step, collected, collect}
+use Rattle.rendezvous.specs.Private.{changeOf, outcomeOf}
+use Rattle.rendezvous.proofs.Below.{and-parts}
+use Rattle.rendezvous.proofs.Forms.{formed-most, formed-fits}
+use Rattle.rendezvous.proofs.Verdicts.{process-passed}
+
+-- Who can change whom: of the partner's record y a rule changes the wake count and the signal alone.
+abbrev Kept : Process → Effect → Type 0
+Kept y Neither = Unit {0}
+Kept y (Own x) = Unit {0}
+Kept y (Both x y′) = changed y (y .place) (y′ .signal) (y′ .accepting) ≡ y′
+
+from-kept : (x : Process) (k : ℕ) (y : Process) → Kept y (scanFrom x k)
+unfolding scanFrom
+from-kept x k y = tt
+
+scan-kept : (x : Process) (i : ℕ) (y : Process) (s : State) (older : Bool) → Kept y (scan x i s older)
+scan-kept x i y Running older = from-kept x _ y
+scan-kept x i y Sleeping older = from-kept x _ y
+scan-kept x i y State.Waiting older = tt
+scan-kept x i y Alt true = tt
+scan-kept x i y Alt false = tt
+
+try-kept : (x : Process) (i : ℕ) (y : Process) (accepting : Bool) (found : Found) → Kept y (try x i y accepting found)
+try-kept x i y true (At j) = refl
+try-kept x i y true Missing = from-kept x _ y
+try-kept x i y false (At j) = from-kept x _ y
+try-kept x i y false Missing = from-kept x _ y
+
+absorb-kept : (x y : Process) (s : Signal) → Kept y (absorb x s)
+absorb-kept x y (Present j m) = tt
+absorb-kept x y Absent = tt
+
+at-kept : (p : ℕ) (x : Process) (q : ℕ) (y : Process) (place : Place) → Kept y (ruleAt p x q y place)
+unfolding handOver
+at-kept p x q y Entering = from-kept x 0 y
+at-kept p x q y Asleep = from-kept x 0 y
+at-kept p x q y (Scanning i) = scan-kept x i y (stateOf (y .place)) (ltb (y .transaction .0) (x .transaction .0))
+at-kept p x q y (Trying i) = try-kept x i y (y .accepting) (firstMatch p (ownGuard x i) q (postedList y))
+at-kept p x q y (Committed i j) = refl
+at-kept p x q y Posting = tt
+at-kept p x q y Opening = tt
+at-kept p x q y Showing = tt
+at-kept p x q y Waiting = absorb-kept x y (x .signal)
+at-kept p x q y Idle = tt
+at-kept p x q y (Met i m) = tt
+
+pub rule-kept : (p : ℕ) (x : Process) (q : ℕ) (y : Process) → Kept y (rule p x q y)
+unfolding rule
+rule-kept p x q y = at-kept p x q y (x .place)
+
+-- an effect in the form of the code, written back: the partner first, then the process that steps
+written : (t : ProcessTable) (p q : ℕ) (x : Process) (e : Effect) → Kept (process t q) e → (c : Change) (told : Process) → c ≡ changeOf x (process t q) e
+    → told ≡ changed (process t q) (process t q .place) (c .signal) (c .accepting) → c .moved ≡ true
+    → record { answer = Moved (c .own .place); table = put (put t q told) p (c .own) } ≡ applied t p q e
+written t p q x Neither k c told f g m = absurd (false≢true (sym (ap (λ (d : Change). d .moved) f) ∙ m))
+written t p q x (Own x′) k c told f g m = rw (g, f) (ap with-own (set-getD (t .processes) q nobody))
+  where
+    with-own : List Process → Reply
+    with-own l = record { answer = Moved (x′ .place); table = record { n = t .n; next = t .next; processes = set l p x′ } }
+written t p q x (Both x′ y′) k c told f g m = rw (g, f, k)
+
+unwritten : (t : ProcessTable) (p q : ℕ) (x y : Process) (e : Effect) (c : Change) → c ≡ changeOf x y e → c .moved ≡ false → record { answer = Unchanged; table = t } ≡ applied t p q e
+unwritten t p q x y Neither c f m = refl
+unwritten t p q x y (Own x′) c f m = absurd (true≢false (sym (ap (λ (d : Change). d .moved) f) ∙ m))
+unwritten t p q x y (Both x′ y′) c f m = absurd (true≢false (sym (ap (λ (d : Change). d .moved) f) ∙ m))
+
+-- guards that fit, and a blank one, name a process below n
+named-below : (n p : ℕ) (gs : List Guard) (i : ℕ) → 0 < n → allGuards (partnerFits n p) gs ≡ true → getD gs i blank .partner < n
+unfolding allGuards partnerFits
+named-below n p [] i h e = h
+named-below n p (g ∷ gs) zero h e =
+    let a = not (eqb (g .partner) p) in
+    let b = ltb (g .partner) n in
+    ltb-true (g .partner) n (and-parts a b (and-parts (a && b) (allGuards (partnerFits n p) gs) e .0) .1)
+named-below n p (g ∷ gs) (suc i) h e = named-below n p gs i h (and-parts (not (eqb (g .partner) p) && ltb (g .partner) n) (allGuards (partnerFits n p) gs) e .1)
+
+partner-below : (t : ProcessTable) (p : ℕ) → fitsAt t p ≡ true → 0 < t .n → partnerOf (process t p) < t .n
+unfolding fitsAt processFits listFits
+partner-below t p e h = go (indexOf (process t p .place))
+  where
+    go : (index : Option ℕ) → namedBy (process t p) index < t .n
+    go none = h
+    go (some i) =
+        let x = process t p in
+        let own = and-parts (leb (x .count) mostGuards) (allGuards (partnerFits (t .n) p) (ownList x)) (and-parts (listFits (t .n) p (x .count) (x .guards)) _ e .0) .1 in
+        named-below (t .n) p (ownList x) i h own
+
+-- a verdict on a step or a collection, from that of the tests
+pub process-asked : (t : ProcessTable) (p : ℕ) (formed : Bool) (verdict : Verdict) → formed ≡ wellFormed t
+    → verdict ≡ require formed NotWellFormed (require (ltb p (t .n)) NoSuchProcess Accepted) → processVerdict t p ≡ verdict
+unfolding processVerdict
+process-asked t p formed verdict e f = rw (← e) (sym f)
+
+pub record Inside (t : ProcessTable) (p : ℕ) : Type 0 where
+  pub own : p % 32 ≡ p
+  pub partner : partnerOf (process t p) % 32 ≡ partnerOf (process t p)
+
+pub inside : (t : ProcessTable) (p : ℕ) → processVerdict t p ≡ Accepted → Inside t p
+inside t p e =
+    let a = process-passed t p e in
+    let m = formed-most t (a .formed) in
+    let b : partnerOf (process t p) < t .n = partner-below t p (formed-fits t p (a .formed) (a .below)) (omega (arith, a .below)) in
+    let c : p < 32 = omega (arith, a .below, m) in
+    let d : partnerOf (process t p) < 32 = omega (arith, b, m) in
+    record { own = mod-eq-of-lt c; partner = mod-eq-of-lt d }
+
+module _ (t : ProcessTable) (p : ℕ) (accepted : processVerdict t p ≡ Accepted) (q : ℕ) (named : q ≡ partnerOf (process t (p % 32))) (c : Change)
+    (e : c ≡ changeOf (process t (p % 32)) (process t (q % 32)) (rule p (process t (p % 32)) q (process t (q % 32)))) where
+  at-q : q ≡ partnerOf (process t p)
+  at-q = named ∙ ap (λ (k : ℕ). partnerOf (process t k)) (inside t p accepted .own)
+
+  q-inside : q % 32 ≡ q
+  q-inside = ap (λ (k : ℕ). k % 32) at-q ∙ inside t p accepted .partner ∙ sym at-q
+
+  effect : c ≡ changeOf (process t p) (process t q) (rule p (process t p) q (process t q))
+  effect = rw (inside t p accepted .own, q-inside) at e
+
+  pub step-moves : (told : Process) → told ≡ changed (process t (q % 32)) (process t (q % 32) .place) (c .signal) (c .accepting) → c .moved ≡ true
+      → record { answer = Moved (c .own .place); table = put (put t (q % 32) told) (p % 32) (c .own) } ≡ step t p
+  unfolding step stepped effectOn
+  step-moves told f m =
+      rw (accepted, inside t p accepted .own, q-inside, ← at-q) (written t p q (process t p) (rule p (process t p) q (process t q)) (rule-kept p (process t p) q (process t q)) c told effect (rw q-inside at f) m)
+
+  pub step-stays : c .moved ≡ false → record { answer = Unchanged; table = t } ≡ step t p
+  unfolding step stepped effectOn
+  step-stays m = rw (accepted, ← at-q) (unwritten t p q (process t p) (process t q) (rule p (process t p) q (process t q)) c effect m)
+
+pub step-refused : (t : ProcessTable) (p : ℕ) (r : Refusal) → processVerdict t p ≡ Verdict.Refused r → record { answer = Answer.Refused r; table = t } ≡ step t p
+unfolding step
+step-refused t p r e = rw e
+
+never : (i : ℕ) (m : Message) → Absent ≡ Present i m → ⊥
+never i m e = let z : _≡_ {A = ℕ} 0 1 = cc in omega arith
+
+-- a collection, by the place in the form of a signal
+at-met : (t : ProcessTable) (p : ℕ) (x : Process) (place : Place) (i : ℕ) (m : Message) → outcomeOf place ≡ Present i m
+    → record { answer = Collected i (ownGuard x i .partner) m; table = put t p (atPlace x Idle) } ≡ collected t p x place
+at-met t p x (Met j k) i m e = let a : j ≡ i = cc in let b : k ≡ m = cc in rw (a, b)
+at-met t p x Idle i m e = absurd (never i m e)
+at-met t p x Entering i m e = absurd (never i m e)
+at-met t p x (Scanning j) i m e = absurd (never i m e)
+at-met t p x (Trying j) i m e = absurd (never i m e)
+at-met t p x (Committed j k) i m e = absurd (never i m e)
+at-met t p x Posting i m e = absurd (never i m e)
+at-met t p x Opening i m e = absurd (never i m e)
+at-met t p x Showing i m e = absurd (never i m e)
+at-met t p x Asleep i m e = absurd (never i m e)
+at-met t p x Waiting i m e = absurd (never i m e)
+
+unmet : (t : ProcessTable) (p : ℕ) (x : Process) (place : Place) → outcomeOf place ≡ Absent → refused NotMet t ≡ collected t p x place
+unmet t p x (Met i m) e = absurd (never i m (sym e))
+unmet t p x Idle e = refl
+unmet t p x Entering e = refl
+unmet t p x (Scanning i) e = refl
+unmet t p x (Trying i) e = refl
+unmet t p x (Committed i j) e = refl
+unmet t p x Posting e = refl
+unmet t p x Opening e = refl
+unmet t p x Showing e = refl
+unmet t p x Asleep e = refl
+unmet t p x Waiting e = refl
+
+pub collect-refused : (t : ProcessTable) (p : ℕ) (r : Refusal) → processVerdict t p ≡ Verdict.Refused r → refused r t ≡ collect t p
+unfolding collect
+collect-refused t p r e = rw e
+
+module _ (t : ProcessTable) (p : ℕ) (accepted : processVerdict t p ≡ Accepted) where
+  pub collect-unmet : outcomeOf (process t (p % 32) .place) ≡ Absent → refused NotMet t ≡ collect t p
+  unfolding collect
+  collect-unmet e = rw accepted (unmet t p (process t p) (process t p .place) (rw (inside t p accepted .own) at e))
+
+  pub collect-met : (i : ℕ) (m : Message) (g : Guard) (y : Process) → outcomeOf (process t (p % 32) .place) ≡ Present i m
+      → g ≡ ownGuard (process t (p % 32)) i → y ≡ atPlace (process t (p % 32)) Idle
+      → record { answer = Collected i (g .partner) m; table = put t (p % 32) y } ≡ collect t p
+  unfolding collect
+  collect-met i m g y e f h = rw (f, h, inside t p accepted .own, accepted) (at-met t p (process t p) (process t p .place) i m (rw (inside t p accepted .own) at e))

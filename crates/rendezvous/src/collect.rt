@@ -1,0 +1,83 @@
+// The call that collects an outcome.
+use crate::Answer;
+use crate::Place;
+use crate::ProcessTable;
+use crate::Refusal;
+use crate::Reply;
+use crate::Signal;
+use crate::Verdict;
+use crate::places::guard_at;
+use crate::well_formed::count_fits;
+use crate::well_formed::posted_by;
+use crate::well_formed::process_fits;
+use crate::well_formed::process_verdict;
+ghost use mathlib.Core.Path.{_≡_};
+ghost use Rattle.rendezvous.specs.Calls.{collect};
+ghost use Rattle.rendezvous.specs.Private.{outcomeOf};
+
+impl Place {
+    // The outcome at M, in the form of a signal: a guard index with a message, or absent.
+    fn outcome(self) -> Signal
+        ensures { λ r. ⌜ r ≡ outcomeOf self ⌝ }
+    {
+        match self {
+            Place::Met(i, m) => Signal::Present(i, m),
+            Place::Idle => Signal::Absent,
+            Place::Entering => Signal::Absent,
+            Place::Scanning(_) => Signal::Absent,
+            Place::Trying(_) => Signal::Absent,
+            Place::Committed(_, _) => Signal::Absent,
+            Place::Posting => Signal::Absent,
+            Place::Opening => Signal::Absent,
+            Place::Showing => Signal::Absent,
+            Place::Asleep => Signal::Absent,
+            Place::Waiting => Signal::Absent,
+        }
+    }
+}
+
+impl ProcessTable {
+    // Takes the outcome of process p: guard index, partner and message.
+    pub fn collect(self, p: u8) -> Reply
+        ensures { λ r. ⌜ r ≡ collect self p ⌝ }
+    {
+        let mut t = self;
+        let n = t.n;
+        let mut formed = count_fits(n);
+        let mut k: u8 = 0;
+        while k < n {
+            let at = (k % 32) as usize;
+            let z = t.processes[at];
+            let named = z.partner();
+            let there = (named % 32) as usize;
+            let posted = t.processes[there].altcount;
+            formed = formed & process_fits(n, k, z, posted_by(named, posted));
+            k = k + 1;
+        }
+        let i = (p % 32) as usize;
+        let x = t.processes[i];
+        let place = x.place;
+        match process_verdict(formed, n, p) {
+            Verdict::Refused(refusal) => Reply {
+                answer: Answer::Refused(refusal),
+                table: t,
+            },
+            Verdict::Accepted => match place.outcome() {
+                Signal::Absent => Reply {
+                    answer: Answer::Refused(Refusal::NotMet),
+                    table: t,
+                },
+                Signal::Present(index, m) => {
+                    let guards = x.guards;
+                    let g = guard_at(x.count, guards, index);
+                    let y = x.at_place(Place::Idle);
+                    t.processes[i] = y;
+                    Reply {
+                        answer: Answer::Collected(index, g.partner, m),
+                        table: t,
+                    }
+                }
+            },
+        }
+    }
+}

@@ -1,0 +1,89 @@
+// The call that moves one process by one rule.
+use crate::Answer;
+use crate::Process;
+use crate::ProcessTable;
+use crate::Reply;
+use crate::Signal;
+use crate::Verdict;
+use crate::rule::rule;
+use crate::well_formed::count_fits;
+use crate::well_formed::posted_by;
+use crate::well_formed::process_fits;
+use crate::well_formed::process_verdict;
+ghost use mathlib.Core.Path.{_≡_};
+ghost use Rattle.rendezvous.specs.Rules.{changed};
+ghost use Rattle.rendezvous.specs.Calls.{step};
+
+impl Process {
+    // The record after its partner's rule, which can change the wake count and the signal.
+    fn told(self, accepting: bool, signal: Signal) -> Process
+        ensures { λ r. ⌜ r ≡ changed self (self .place) signal accepting ⌝ }
+    {
+        let place = self.place;
+        let transaction = self.transaction;
+        let guards = self.guards;
+        let altlist = self.altlist;
+        Process {
+            place: place,
+            signal: signal,
+            transaction: transaction,
+            accepting: accepting,
+            count: self.count,
+            altcount: self.altcount,
+            guards: guards,
+            altlist: altlist,
+        }
+    }
+}
+
+impl ProcessTable {
+    // Moves process p by one rule, and says its new place or that nothing changed.
+    pub fn step(self, p: u8) -> Reply
+        ensures { λ r. ⌜ r ≡ step self p ⌝ }
+    {
+        let mut t = self;
+        let n = t.n;
+        let mut formed = count_fits(n);
+        let mut k: u8 = 0;
+        while k < n {
+            let at = (k % 32) as usize;
+            let z = t.processes[at];
+            let named = z.partner();
+            let there = (named % 32) as usize;
+            let posted = t.processes[there].altcount;
+            formed = formed & process_fits(n, k, z, posted_by(named, posted));
+            k = k + 1;
+        }
+        let i = (p % 32) as usize;
+        let x = t.processes[i];
+        let q = x.partner();
+        let j = (q % 32) as usize;
+        let y = t.processes[j];
+        match process_verdict(formed, n, p) {
+            Verdict::Refused(refusal) => Reply {
+                answer: Answer::Refused(refusal),
+                table: t,
+            },
+            Verdict::Accepted => {
+                let c = rule(p, x, q, y);
+                let own = c.own;
+                let place = own.place;
+                let signal = c.signal;
+                let partner = y.told(c.accepting, signal);
+                if c.moved {
+                    t.processes[j] = partner;
+                    t.processes[i] = own;
+                    Reply {
+                        answer: Answer::Moved(place),
+                        table: t,
+                    }
+                } else {
+                    Reply {
+                        answer: Answer::Unchanged,
+                        table: t,
+                    }
+                }
+            }
+        }
+    }
+}
