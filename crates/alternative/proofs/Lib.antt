@@ -1,3 +1,4 @@
 pub mod Nan
 pub mod Rest
 pub mod Slots
+pub mod Tests

@@ -1,18 +1,28 @@
 -- Laws of a well-formed table.
-use Prim.Native.Nat.{ℕ, _+_, _≤_, _<_, _%_}
-use mathlib.Core.Path.{_≡_, refl, sym, ap, _∙_}
+use Prim.Native.Nat.{ℕ, zero, suc, _+_, _≤_, _<_, _%_}
+use mathlib.Core.Path.{_≡_, refl, sym, ap, subst, _∙_}
+use mathlib.Core.Logic.{⊎-elim}
 use mathlib.Core.Bool.{Bool, true, false, _&&_, cond}
-use native.Mathlib.Nat.{mod-eq-of-lt}
+use native.Mathlib.Nat.{mod-eq-of-lt, not-suc-le-zero, le-of-suc-le-suc, eq-or-lt-of-le}
 use native.Mathlib.Numerals.{add-one}
 use native.Mathlib.Omega.{arith}
 use lib.ListN.{length, List·getD-eq-default}
 use lib.Dec.{ltb, leb}
 use borrow.Author.Tests.{ltb-true, ltb-false, leb-true}
 use Rattle.rendezvous.specs.declared.ProcessTable.{ProcessTable}
-use Rattle.rendezvous.specs.Table.{mostProcesses, nobody, process}
-use Rattle.rendezvous.specs.Rules.{partnerOf}
-use Rattle.rendezvous.proofs.Below.{and-parts, all-at}
-use Rattle.rendezvous.specs.WellFormed.{allBelow, countFits, processFits, fitsAt, wellFormed}
+use Rattle.rendezvous.specs.Table.{mostProcesses, process}
+use Rattle.process.specs.Process.{nobody}
+use Rattle.process.specs.Rules.{partnerOf}
+use Rattle.process.specs.Fits.{processFits}
+use Rattle.alternative.proofs.Tests.{and-parts}
+use Rattle.rendezvous.specs.WellFormed.{allBelow, countFits, fitsAt, wellFormed}
+
+all-at : (test : ℕ → Bool) (k n : ℕ) → k < n → allBelow test n ≡ true → test k ≡ true
+unfolding allBelow
+all-at test k zero h e = absurd (not-suc-le-zero h)
+all-at test k (suc n) h e =
+    let a = and-parts (allBelow test n) (test n) e in
+    ⊎-elim (λ q. subst (λ (j : ℕ). test j ≡ true) (sym q) (a .1)) (λ l. all-at test k n l (a .0)) (eq-or-lt-of-le (le-of-suc-le-suc h))
 
 pub count-most : (n : ℕ) → countFits n ≡ true → n ≤ mostProcesses
 unfolding countFits

@@ -1,9 +1,6 @@
-pub mod Below
 pub mod Forms
 pub mod Lengths
-pub mod Movers
 pub mod Offers
-pub mod Rules
 pub mod Sets
 pub mod Steps
 pub mod Verdicts

@@ -8,7 +8,7 @@ use lib.ListN.{set}
 use lib.Dec.{ltb}
 use borrow.Author.Tests.{ltb-true}
 use Rattle.alternative.specs.declared.GuardList.{GuardList}
-use Rattle.rendezvous.specs.declared.Process.{Process}
+use Rattle.process.specs.declared.Process.{Process}
 use Rattle.rendezvous.specs.declared.ProcessTable.{ProcessTable}
 use Rattle.rendezvous.specs.declared.Answer.the-variants.{Offered}
 use Rattle.rendezvous.specs.declared.Refusal.{Refusal}

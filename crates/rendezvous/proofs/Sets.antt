@@ -6,10 +6,11 @@ use mathlib.Core.Logic.{⊎-elim}
 use native.Mathlib.Nat.{two-pow-succ, one-le-pow, pow-le-pow-right, pow-zero, pow-suc, add-zero, add-suc, mul-one, mul-assoc, add-mul-div-left, add-div-right, div-eq-of-lt, eq-or-lt-of-le, le-of-suc-le-suc, not-suc-le-zero}
 use native.Mathlib.Numerals.{add-one}
 use native.Mathlib.Omega.{arith}
+use Rattle.process.specs.Rules.{changes}
 use Rattle.rendezvous.specs.Types.{ProcessTable, NotWellFormed, Runnable, Reply}
 use Rattle.rendezvous.specs.WellFormed.{wellFormed}
 use Rattle.rendezvous.specs.Refusals.{tableVerdict}
-use Rattle.rendezvous.specs.Calls.{refused, changes, effectOn, setBelow, runnableSet, runnable}
+use Rattle.rendezvous.specs.Calls.{refused, effectOn, setBelow, runnableSet, runnable}
 
 pub set-below : (member : ℕ → Bool) (n : ℕ) → setBelow member n < 2 ^ n
 unfolding setBelow

@@ -1,72 +1,28 @@
 -- Laws of a step and a collection. The code reads and writes the records at p % 32 and q % 32, which are those of p and its partner where p is a process.
-use Prim.Native.Nat.{ℕ, zero, suc, _<_, _≤_, _%_}
+use Prim.Native.Nat.{ℕ, _<_, _%_}
 use mathlib.Core.Path.{_≡_, refl, sym, ap, _∙_}
-use mathlib.Core.Bool.{Bool, true, false, not, _&&_, true≢false, false≢true}
-use mathlib.Core.List.{List, [], _∷_}
-use mathlib.Core.Option.{Option, some, none}
+use mathlib.Core.Bool.{Bool, true, false, true≢false, false≢true}
+use mathlib.Core.List.{List}
 use native.Mathlib.Nat.{mod-eq-of-lt}
 use native.Mathlib.Omega.{arith}
-use lib.ListN.{getD, set}
+use lib.ListN.{set}
 use lib.Seq.{set-getD}
-use lib.Dec.{ltb, leb, eqb}
-use borrow.Author.Tests.{ltb-true}
-use Rattle.alternative.specs.Guards.{mostGuards, blank, firstMatch}
-use Rattle.rendezvous.specs.Types.{Message, Guard, Found, At, Missing, Signal, Absent, Present, Place, Idle, Entering, Scanning, Trying, Committed, Posting, Opening, Showing, Asleep, Waiting, Met, State, Running, Alt, Sleeping, Process, ProcessTable, Refusal, NotWellFormed, NoSuchProcess, NotMet, Verdict, Accepted, Answer, Moved, Unchanged, Collected, Reply}
-use Rattle.rendezvous.specs.declared.rule.Change.{Change}
-use Rattle.rendezvous.specs.Table.{stateOf, indexOf, ownList, postedList, ownGuard, nobody, process, put}
-use Rattle.rendezvous.specs.Rules.{Effect, Neither, Own, Both, changed, atPlace, scanFrom, scan, try, handOver, absorb, ruleAt, rule, namedBy, partnerOf}
-use Rattle.rendezvous.specs.WellFormed.{allGuards, allBelow, partnerFits, listFits, processFits, fitsAt, wellFormed}
+use lib.Dec.{ltb}
+use borrow.Author.Tests.{lt-ltb}
+use Rattle.process.specs.declared.Signal.the-variants.{Absent, Present}
+use Rattle.process.specs.declared.Change.{Change}
+use Rattle.process.specs.Process.{ownGuard, nobody}
+use Rattle.process.specs.Rules.{Effect, Neither, Own, Both, changed, atPlace, rule, partnerOf, changes}
+use Rattle.process.specs.Private.{changeOf, changesAt, outcomeOf}
+use Rattle.process.proofs.Kept.{Kept, rule-kept, partner-below}
+use Rattle.process.proofs.Movers.{changes-at}
+use Rattle.rendezvous.specs.Types.{Message, Guard, Place, Idle, Entering, Scanning, Trying, Committed, Posting, Opening, Showing, Asleep, Waiting, Met, Process, ProcessTable, Refusal, NotWellFormed, NoSuchProcess, NotMet, Verdict, Accepted, Answer, Moved, Unchanged, Collected, Reply}
+use Rattle.rendezvous.specs.Table.{process, put}
+use Rattle.rendezvous.specs.WellFormed.{fitsAt, wellFormed}
 use Rattle.rendezvous.specs.Refusals.{require, processVerdict}
 use Rattle.rendezvous.specs.Calls.{refused, effectOn, applied, stepped, step, collected, collect}
-use Rattle.rendezvous.specs.Private.{changeOf, outcomeOf}
-use Rattle.rendezvous.proofs.Below.{and-parts}
 use Rattle.rendezvous.proofs.Forms.{formed-most, formed-fits}
 use Rattle.rendezvous.proofs.Verdicts.{process-passed}
-
--- Who can change whom: of the partner's record y a rule changes the wake count and the signal alone.
-abbrev Kept : Process → Effect → Type 0
-Kept y Neither = Unit {0}
-Kept y (Own x) = Unit {0}
-Kept y (Both x y′) = changed y (y .place) (y′ .signal) (y′ .accepting) ≡ y′
-
-from-kept : (x : Process) (k : ℕ) (y : Process) → Kept y (scanFrom x k)
-unfolding scanFrom
-from-kept x k y = tt
-
-scan-kept : (x : Process) (i : ℕ) (y : Process) (s : State) (older : Bool) → Kept y (scan x i s older)
-scan-kept x i y Running older = from-kept x _ y
-scan-kept x i y Sleeping older = from-kept x _ y
-scan-kept x i y State.Waiting older = tt
-scan-kept x i y Alt true = tt
-scan-kept x i y Alt false = tt
-
-try-kept : (x : Process) (i : ℕ) (y : Process) (accepting : Bool) (found : Found) → Kept y (try x i y accepting found)
-try-kept x i y true (At j) = refl
-try-kept x i y true Missing = from-kept x _ y
-try-kept x i y false (At j) = from-kept x _ y
-try-kept x i y false Missing = from-kept x _ y
-
-absorb-kept : (x y : Process) (s : Signal) → Kept y (absorb x s)
-absorb-kept x y (Present j m) = tt
-absorb-kept x y Absent = tt
-
-at-kept : (p : ℕ) (x : Process) (q : ℕ) (y : Process) (place : Place) → Kept y (ruleAt p x q y place)
-unfolding handOver
-at-kept p x q y Entering = from-kept x 0 y
-at-kept p x q y Asleep = from-kept x 0 y
-at-kept p x q y (Scanning i) = scan-kept x i y (stateOf (y .place)) (ltb (y .transaction .0) (x .transaction .0))
-at-kept p x q y (Trying i) = try-kept x i y (y .accepting) (firstMatch p (ownGuard x i) q (postedList y))
-at-kept p x q y (Committed i j) = refl
-at-kept p x q y Posting = tt
-at-kept p x q y Opening = tt
-at-kept p x q y Showing = tt
-at-kept p x q y Waiting = absorb-kept x y (x .signal)
-at-kept p x q y Idle = tt
-at-kept p x q y (Met i m) = tt
-
-pub rule-kept : (p : ℕ) (x : Process) (q : ℕ) (y : Process) → Kept y (rule p x q y)
-unfolding rule
-rule-kept p x q y = at-kept p x q y (x .place)
 
 -- an effect in the form of the code, written back: the partner first, then the process that steps
 written : (t : ProcessTable) (p q : ℕ) (x : Process) (e : Effect) → Kept (process t q) e → (c : Change) (told : Process) → c ≡ changeOf x (process t q) e
@@ -84,26 +40,10 @@ unwritten t p q x y Neither c f m = refl
 unwritten t p q x y (Own x′) c f m = absurd (true≢false (sym (ap (λ (d : Change). d .moved) f) ∙ m))
 unwritten t p q x y (Both x′ y′) c f m = absurd (true≢false (sym (ap (λ (d : Change). d .moved) f) ∙ m))
 
--- guards that fit, and a blank one, name a process below n
-named-below : (n p : ℕ) (gs : List Guard) (i : ℕ) → 0 < n → allGuards (partnerFits n p) gs ≡ true → getD gs i blank .partner < n
-unfolding allGuards partnerFits
-named-below n p [] i h e = h
-named-below n p (g ∷ gs) zero h e =
-    let a = not (eqb (g .partner) p) in
-    let b = ltb (g .partner) n in
-    ltb-true (g .partner) n (and-parts a b (and-parts (a && b) (allGuards (partnerFits n p) gs) e .0) .1)
-named-below n p (g ∷ gs) (suc i) h e = named-below n p gs i h (and-parts (not (eqb (g .partner) p) && ltb (g .partner) n) (allGuards (partnerFits n p) gs) e .1)
-
-partner-below : (t : ProcessTable) (p : ℕ) → fitsAt t p ≡ true → 0 < t .n → partnerOf (process t p) < t .n
-unfolding fitsAt processFits listFits
-partner-below t p e h = go (indexOf (process t p .place))
-  where
-    go : (index : Option ℕ) → namedBy (process t p) index < t .n
-    go none = h
-    go (some i) =
-        let x = process t p in
-        let own = and-parts (leb (x .count) mostGuards) (allGuards (partnerFits (t .n) p) (ownList x)) (and-parts (listFits (t .n) p (x .count) (x .guards)) _ e .0) .1 in
-        named-below (t .n) p (ownList x) i h own
+-- a process that fits, and its partner, below n
+partner-inside : (t : ProcessTable) (p : ℕ) → fitsAt t p ≡ true → 0 < t .n → partnerOf (process t p) < t .n
+unfolding fitsAt
+partner-inside t p e h = partner-below (t .n) p (process t p) _ e h
 
 -- a verdict on a step or a collection, from that of the tests
 pub process-asked : (t : ProcessTable) (p : ℕ) (formed : Bool) (verdict : Verdict) → formed ≡ wellFormed t
@@ -119,7 +59,7 @@ pub inside : (t : ProcessTable) (p : ℕ) → processVerdict t p ≡ Accepted �
 inside t p e =
     let a = process-passed t p e in
     let m = formed-most t (a .formed) in
-    let b : partnerOf (process t p) < t .n = partner-below t p (formed-fits t p (a .formed) (a .below)) (omega (arith, a .below)) in
+    let b : partnerOf (process t p) < t .n = partner-inside t p (formed-fits t p (a .formed) (a .below)) (omega (arith, a .below)) in
     let c : p < 32 = omega (arith, a .below, m) in
     let d : partnerOf (process t p) < 32 = omega (arith, b, m) in
     record { own = mod-eq-of-lt c; partner = mod-eq-of-lt d }
@@ -194,3 +134,18 @@ module _ (t : ProcessTable) (p : ℕ) (accepted : processVerdict t p ≡ Accepte
       → record { answer = Collected i (g .partner) m; table = put t (p % 32) y } ≡ collect t p
   unfolding collect
   collect-met i m g y e f h = rw (f, h, inside t p accepted .own, accepted) (at-met t p (process t p) (process t p .place) i m (rw (inside t p accepted .own) at e))
+
+process-accepted : (t : ProcessTable) (p : ℕ) → wellFormed t ≡ true → p < t .n → processVerdict t p ≡ Accepted
+unfolding processVerdict
+process-accepted t p e h = rw (e, lt-ltb p (t .n) h)
+
+-- what the code reads of process p tells whether a step changes the table
+pub member-read : (t : ProcessTable) (p q : ℕ) (r : Bool) → wellFormed t ≡ true → p < t .n → q ≡ partnerOf (process t (p % 32))
+    → r ≡ changesAt (process t (p % 32)) (process t (q % 32)) (process t (p % 32) .place) → changes (effectOn t p) ≡ r
+unfolding effectOn rule
+member-read t p q r e h f g =
+    let i = inside t p (process-accepted t p e h) in
+    let at-q : q ≡ partnerOf (process t p) = rw (i .own) at f in
+    let x = process t p in
+    let read : r ≡ changesAt x (process t (partnerOf x)) (x .place) = rw (i .own, at-q, i .partner) at g in
+    sym (read ∙ changes-at p x (partnerOf x) (process t (partnerOf x)) (x .place))

@@ -18,9 +18,11 @@ use Rattle.rendezvous.specs.declared.Refusal.the-variants.{NotWellFormed
 use Rattle.rendezvous.specs.declared.Verdict.{Verdict}
 use Rattle.rendezvous.specs.declared.Verdict.the-variants.{Accepted, Refused}
 use Rattle.rendezvous.specs.Table.{lastTransaction, process}
-use Rattle.rendezvous.specs.WellFormed.{allGuards, partnerFits, wellFormed}
-use Rattle.rendezvous.proofs.Below.{and-parts}
-use Rattle.rendezvous.specs.Refusals.{require, isIdle, requireGuards, processVerdict, listVerdict, stateVerdict, offerVerdict}
+use Rattle.rendezvous.specs.WellFormed.{wellFormed}
+use Rattle.alternative.proofs.Tests.{and-parts}
+use Rattle.process.specs.Process.{isIdle}
+use Rattle.process.specs.Fits.{allGuards, partnerFits}
+use Rattle.rendezvous.specs.Refusals.{require, requireGuards, processVerdict, listVerdict, stateVerdict, offerVerdict}
 
 -- a verdict accepts, or refuses by some refusal
 pub either : (v : Verdict) → (v ≡ Accepted) ⊎ ((r : Refusal) × (v ≡ Refused r))

@@ -1,13 +1,14 @@
 -- To be believed. Document 01, "Calls": what each call answers, and the table that it hands back.
 use Prim.Native.Nat.{ℕ, zero, suc, _+_, _^_}
 use mathlib.Core.Path.{_≡_}
-use mathlib.Core.Bool.{Bool, true, false, cond}
+use mathlib.Core.Bool.{Bool, cond}
 use mathlib.Core.List.{List}
 use lib.ListN.{set, take}
 use Rattle.alternative.specs.Guards.{slots, lent}
 use Rattle.rendezvous.specs.Types.{Guard, GuardList, TransactionId, Place, Idle, Entering, Scanning, Trying, Committed, Posting, Opening, Showing, Asleep, Waiting, Met, Process, ProcessTable, Refusal, NotMet, Verdict, Accepted, Answer, Made, Offered, Moved, Unchanged, Collected, Runnable, Reply}
-use Rattle.rendezvous.specs.Table.{ownGuard, process, put, freshTable}
-use Rattle.rendezvous.specs.Rules.{Effect, Neither, Own, Both, atPlace, rule, partnerOf}
+use Rattle.rendezvous.specs.Table.{process, put, freshTable}
+use Rattle.process.specs.Process.{ownGuard}
+use Rattle.process.specs.Rules.{Effect, Neither, Own, Both, atPlace, rule, partnerOf, changes}
 use Rattle.rendezvous.specs.Refusals.{createVerdict, tableVerdict, processVerdict, offerVerdict}
 
 -- A refusal "returns its number and the desk received, bit for bit."
@@ -73,11 +74,6 @@ unfoldable pub collect : ProcessTable → ℕ → Reply
 collect t p = let x = process t p in ifAccepted (processVerdict t p) t (collected t p x (x .place))
 
 -- Movers. "bit p is 1 exactly if p is a party and a step of p would change the desk."
-abbrev pub changes : Effect → Bool
-changes Neither = false
-changes (Own x) = true
-changes (Both x y) = true
-
 unfoldable pub setBelow : (ℕ → Bool) → ℕ → ℕ
 setBelow member zero = 0
 setBelow member (suc n) = setBelow member n + cond (member n) (2 ^ n) 0

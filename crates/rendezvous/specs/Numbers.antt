@@ -2,7 +2,7 @@
 use Prim.Native.Nat.{ℕ}
 use mathlib.Core.Option.{Option}
 use Rattle.rendezvous.specs.Types.{Message, Place, Idle, Entering, Scanning, Trying, Committed, Posting, Opening, Showing, Asleep, Waiting, Met, Refusal, ProcessCount, NotWellFormed, NoSuchProcess, GuardCount, Partner, NotANumber, NoneEnabled, NotIdle, LastTransaction, NotMet, Answer, Made, Offered, Moved, Unchanged, Collected, Runnable}
-use Rattle.rendezvous.specs.Table.{indexOf}
+use Rattle.process.specs.Process.{indexOf}
 
 -- "What turns a call away"
 abbrev pub refusalNumber : Refusal → ℕ

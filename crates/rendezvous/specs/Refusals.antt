@@ -6,27 +6,16 @@ use lib.ListN.{take}
 use lib.Dec.{ltb, leb}
 use Rattle.alternative.specs.Guards.{mostGuards, anyGuard}
 use Rattle.alternative.specs.Exchange.{actionHoldsNan}
-use Rattle.rendezvous.specs.Types.{Guard, GuardList, TransactionId, Place, Idle, Entering, Scanning, Trying, Committed, Posting, Opening, Showing, Asleep, Waiting, Met, ProcessTable, Refusal, ProcessCount, NotWellFormed, NoSuchProcess, GuardCount, Partner, NotANumber, NoneEnabled, NotIdle, LastTransaction, Verdict, Accepted}
+use Rattle.process.specs.Process.{isIdle}
+use Rattle.process.specs.Fits.{partnerFits}
+use Rattle.rendezvous.specs.Types.{Guard, GuardList, TransactionId, Place, ProcessTable, Refusal, ProcessCount, NotWellFormed, NoSuchProcess, GuardCount, Partner, NotANumber, NoneEnabled, NotIdle, LastTransaction, Verdict, Accepted}
 use Rattle.rendezvous.specs.Table.{lastTransaction, process}
-use Rattle.rendezvous.specs.WellFormed.{countFits, partnerFits, wellFormed}
+use Rattle.rendezvous.specs.WellFormed.{countFits, wellFormed}
 
 -- one test: what fails it is refused, what passes it goes on to the rest
 abbrev pub require : Bool → Refusal → Verdict → Verdict
 require true refusal rest = rest
 require false refusal rest = Verdict.Refused refusal
-
-abbrev pub isIdle : Place → Bool
-isIdle Idle = true
-isIdle Entering = false
-isIdle (Scanning i) = false
-isIdle (Trying i) = false
-isIdle (Committed i j) = false
-isIdle Posting = false
-isIdle Opening = false
-isIdle Showing = false
-isIdle Asleep = false
-isIdle Waiting = false
-isIdle (Met i m) = false
 
 -- a new table of n processes: 1
 unfoldable pub createVerdict : ℕ → Verdict

@@ -1,12 +1,10 @@
--- To be believed. Document 01, "The desk and its tasks": words, records, lists, a fresh desk; and from "Calls": open offers.
+-- To be believed. Document 01, "The desk and its tasks": the records of a table, a fresh one; and from "Calls": open offers.
 use Prim.Native.Nat.{ℕ}
-use mathlib.Core.Bool.{Bool, true, false, _&&_}
-use mathlib.Core.List.{List, []}
-use mathlib.Core.Option.{Option, some, none}
-use lib.ListN.{getD, set, take, replicate}
+use mathlib.Core.Bool.{Bool, _&&_}
+use lib.ListN.{getD, set, replicate}
 use lib.Dec.{ltb}
-use Rattle.alternative.specs.Guards.{mostGuards, blank}
-use Rattle.rendezvous.specs.Types.{Guard, Absent, Place, Idle, Entering, Scanning, Trying, Committed, Posting, Opening, Showing, Asleep, Waiting, Met, State, Running, Alt, Sleeping, Process, ProcessTable}
+use Rattle.process.specs.Process.{nobody, freshProcess, isOpen}
+use Rattle.rendezvous.specs.Types.{Process, ProcessTable}
 
 -- the most processes, and the ticket that is never given out
 abbrev pub mostProcesses : ℕ
@@ -15,80 +13,17 @@ mostProcesses = 32
 abbrev pub lastTransaction : ℕ
 lastTransaction = 4294967295
 
--- "Others read a word that follows from the place"
-abbrev pub stateOf : Place → State
-stateOf Idle = Running
-stateOf Entering = Running
-stateOf (Met i m) = Running
-stateOf (Scanning i) = Alt
-stateOf (Trying i) = Alt
-stateOf (Committed i j) = Alt
-stateOf Posting = Alt
-stateOf Opening = Alt
-stateOf Showing = Alt
-stateOf Asleep = Sleeping
-stateOf Waiting = State.Waiting
-
--- "A, T and C carry the index of a guard."
-abbrev pub indexOf : Place → Option ℕ
-indexOf (Scanning i) = some i
-indexOf (Trying i) = some i
-indexOf (Committed i j) = some i
-indexOf Idle = none
-indexOf Entering = none
-indexOf Posting = none
-indexOf Opening = none
-indexOf Showing = none
-indexOf Asleep = none
-indexOf Waiting = none
-indexOf (Met i m) = none
-
--- a process's own list and its posted list, and guard i of each
-abbrev pub ownList : Process → List Guard
-ownList x = take (x .count) (x .guards)
-
-abbrev pub postedList : Process → List Guard
-postedList x = take (x .altcount) (x .altlist)
-
-abbrev pub ownGuard : Process → ℕ → Guard
-ownGuard x i = getD (ownList x) i blank
-
-abbrev pub postedGuard : Process → ℕ → Guard
-postedGuard x i = getD (postedList x) i blank
-
--- the record of process p, and the table with another record there; outside the table stands a process at I with empty lists, which no call acts on
-abbrev pub nobody : Process
-nobody = record { place = Idle; signal = Absent; transaction = record { 0 = 0 }; accepting = false; count = 0; altcount = 0; guards = []; altlist = [] }
-
+-- the record of process p, and the table with another record there
 abbrev pub process : ProcessTable → ℕ → Process
 process t p = getD (t .processes) p nobody
 
 abbrev pub put : ProcessTable → ℕ → Process → ProcessTable
 put t p x = record { n = t .n; next = t .next; processes = set (t .processes) p x }
 
--- "A fresh desk has every party at I, own and posted lists empty, wake counts 1, no signals, every party's ticket and the next ticket 0."
-abbrev pub freshProcess : Process
-freshProcess = let blanks = replicate mostGuards blank in record { place = Idle; signal = Absent; transaction = record { 0 = 0 }; accepting = false; count = 0; altcount = 0; guards = blanks; altlist = blanks }
-
+-- "A fresh desk has every party at I, .. every party's ticket and the next ticket 0."
 abbrev pub freshTable : ℕ → ProcessTable
 freshTable n = record { n = n; next = record { 0 = 0 }; processes = replicate mostProcesses freshProcess }
 
--- "On any desk, reached or damaged, the open offers are those of parties at E, A, T, P, O or S, or at H or W with wake count 0."
-abbrev pub openAt : Place → Bool → Bool
-openAt Entering accepting = true
-openAt (Scanning i) accepting = true
-openAt (Trying i) accepting = true
-openAt Posting accepting = true
-openAt Opening accepting = true
-openAt Asleep accepting = true
-openAt Showing accepting = accepting
-openAt Waiting accepting = accepting
-openAt Idle accepting = false
-openAt (Committed i j) accepting = false
-openAt (Met i m) accepting = false
-
-abbrev pub isOpen : Process → Bool
-isOpen x = openAt (x .place) (x .accepting)
-
+-- "the open offers are those of parties at E, .."
 abbrev pub hasOpenOffer : ProcessTable → ℕ → Bool
 hasOpenOffer t p = ltb p (t .n) && isOpen (process t p)

@@ -2,16 +2,10 @@
 pub use Rattle.alternative.specs.declared.Message.{Message}
 pub use Rattle.alternative.specs.declared.Guard.{Guard}
 pub use Rattle.alternative.specs.declared.GuardList.{GuardList}
-pub use Rattle.alternative.specs.declared.Found.{Found}
-pub use Rattle.alternative.specs.declared.Found.the-variants.{At, Missing}
-pub use Rattle.rendezvous.specs.declared.TransactionId.{TransactionId}
-pub use Rattle.rendezvous.specs.declared.Signal.{Signal}
-pub use Rattle.rendezvous.specs.declared.Signal.the-variants.{Absent, Present}
-pub use Rattle.rendezvous.specs.declared.Place.{Place}
-pub use Rattle.rendezvous.specs.declared.Place.the-variants.{Idle, Entering, Scanning, Trying, Committed, Posting, Opening, Showing, Asleep, Waiting, Met}
-pub use Rattle.rendezvous.specs.declared.State.{State}
-pub use Rattle.rendezvous.specs.declared.State.the-variants.{Running, Alt, Sleeping}
-pub use Rattle.rendezvous.specs.declared.Process.{Process}
+pub use Rattle.process.specs.declared.TransactionId.{TransactionId}
+pub use Rattle.process.specs.declared.Place.{Place}
+pub use Rattle.process.specs.declared.Place.the-variants.{Idle, Entering, Scanning, Trying, Committed, Posting, Opening, Showing, Asleep, Waiting, Met}
+pub use Rattle.process.specs.declared.Process.{Process}
 pub use Rattle.rendezvous.specs.declared.ProcessTable.{ProcessTable}
 pub use Rattle.rendezvous.specs.declared.Refusal.{Refusal}
 pub use Rattle.rendezvous.specs.declared.Refusal.the-variants.{ProcessCount, NotWellFormed, NoSuchProcess, GuardCount, Partner, NotANumber, NoneEnabled, NotIdle, LastTransaction, NotMet}

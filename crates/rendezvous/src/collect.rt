@@ -1,40 +1,18 @@
 // The call that collects an outcome.
 use crate::Answer;
-use crate::Place;
 use crate::ProcessTable;
 use crate::Refusal;
 use crate::Reply;
-use crate::Signal;
 use crate::Verdict;
-use crate::places::guard_at;
 use crate::well_formed::count_fits;
-use crate::well_formed::posted_by;
-use crate::well_formed::process_fits;
 use crate::well_formed::process_verdict;
+use process::Place;
+use process::Signal;
+use process::guard_at;
+use process::posted_by;
+use process::process_fits;
 ghost use mathlib.Core.Path.{_≡_};
 ghost use Rattle.rendezvous.specs.Calls.{collect};
-ghost use Rattle.rendezvous.specs.Private.{outcomeOf};
-
-impl Place {
-    // The outcome at M, in the form of a signal: a guard index with a message, or absent.
-    fn outcome(self) -> Signal
-        ensures { λ r. ⌜ r ≡ outcomeOf self ⌝ }
-    {
-        match self {
-            Place::Met(i, m) => Signal::Present(i, m),
-            Place::Idle => Signal::Absent,
-            Place::Entering => Signal::Absent,
-            Place::Scanning(_) => Signal::Absent,
-            Place::Trying(_) => Signal::Absent,
-            Place::Committed(_, _) => Signal::Absent,
-            Place::Posting => Signal::Absent,
-            Place::Opening => Signal::Absent,
-            Place::Showing => Signal::Absent,
-            Place::Asleep => Signal::Absent,
-            Place::Waiting => Signal::Absent,
-        }
-    }
-}
 
 impl ProcessTable {
     // Takes the outcome of process p: guard index, partner and message.

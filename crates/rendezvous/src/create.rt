@@ -1,35 +1,14 @@
 // New tables.
 use crate::Answer;
-use crate::Place;
-use crate::Process;
 use crate::ProcessTable;
 use crate::Refusal;
 use crate::Reply;
-use crate::Signal;
-use crate::TransactionId;
 use crate::well_formed::count_fits;
-use alternative::blank_guard;
+use process::TransactionId;
+use process::fresh_process;
 ghost use mathlib.Core.Path.{_≡_};
-ghost use Rattle.rendezvous.specs.Table.{freshProcess, freshTable};
+ghost use Rattle.rendezvous.specs.Table.{freshTable};
 ghost use Rattle.rendezvous.specs.Calls.{create};
-
-fn fresh_process() -> Process
-    ensures { λ r. ⌜ r ≡ freshProcess ⌝ }
-{
-    let blank = blank_guard();
-    let guards = [blank; 8];
-    let altlist = [blank; 8];
-    Process {
-        place: Place::Idle,
-        signal: Signal::Absent,
-        transaction: TransactionId(0),
-        accepting: false,
-        count: 0,
-        altcount: 0,
-        guards: guards,
-        altlist: altlist,
-    }
-}
 
 fn fresh_table(n: u8) -> ProcessTable
     ensures { λ r. ⌜ r ≡ freshTable n ⌝ }

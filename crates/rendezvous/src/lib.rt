@@ -1,12 +1,12 @@
-// The process table: its records, what the calls answer, and the calls.
-use alternative::Guard;
+// The process table: the calls on it, and what they answer.
 use alternative::Message;
+use process::Place;
+use process::Process;
+use process::TransactionId;
 
 mod collect;
 mod create;
 mod offer;
-mod places;
-mod rule;
 mod runnable;
 mod step;
 mod well_formed;
@@ -15,52 +15,6 @@ mod well_formed;
 pub const MOST_PROCESSES: u8 = 32;
 
 pub const LAST_TRANSACTION: u32 = 4294967295;
-
-// Document 01's ticket: the number of one offer. It is no process number, and priority goes by it alone.
-pub struct TransactionId(pub u32);
-
-// Document 01's signal: absent, or a guard index with a message.
-pub enum Signal {
-    Absent,
-    Present(u8, Message),
-}
-
-// Document 01's place, a word for each letter: I E A T C P O H S W M. A guard's index goes with A, T and C; with C also the kept
-// index of the partner's guard; with M the outcome, a guard index and a message.
-pub enum Place {
-    Idle,
-    Entering,
-    Scanning(u8),
-    Trying(u8),
-    Committed(u8, u8),
-    Posting,
-    Opening,
-    Showing,
-    Asleep,
-    Waiting,
-    Met(u8, Message),
-}
-
-// Document 01's word: what others read of a place.
-pub enum State {
-    Running,
-    Alt,
-    Sleeping,
-    Waiting,
-}
-
-// Document 01's party. `guards` with `count` is its own list, `altlist` with `altcount` the posted one; `accepting` is true where
-// the wake count is 0.
-pub struct Process {
-    pub place: Place,
-    pub signal: Signal,
-    pub transaction: TransactionId,
-    pub accepting: bool,
-    pub count: u8,
-    pub altcount: u8,
-    pub guards: [Guard; 8],
-    pub altlist: [Guard; 8],
-}
 
 // Document 01's desk: the number of processes, the next ticket, and a record for each process.
 pub struct ProcessTable {

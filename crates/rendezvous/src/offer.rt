@@ -1,22 +1,22 @@
 // Offers of a list that is given by value.
 use crate::Answer;
 use crate::LAST_TRANSACTION;
-use crate::Place;
-use crate::Process;
 use crate::ProcessTable;
 use crate::Refusal;
 use crate::Reply;
-use crate::TransactionId;
 use crate::Verdict;
 use crate::well_formed::count_fits;
-use crate::well_formed::partner_fits;
-use crate::well_formed::posted_by;
-use crate::well_formed::process_fits;
 use alternative::Guard;
 use alternative::GuardList;
 use alternative::action_holds_nan;
 use alternative::any_enabled;
 use alternative::blanked;
+use process::Place;
+use process::Process;
+use process::TransactionId;
+use process::partner_fits;
+use process::posted_by;
+use process::process_fits;
 ghost use mathlib.Core.Path.{_≡_};
 ghost use Prim.Native.Nat.{_≤_};
 ghost use lib.ListN.{take};

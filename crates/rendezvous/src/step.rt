@@ -1,40 +1,15 @@
 // The call that moves one process by one rule.
 use crate::Answer;
-use crate::Process;
 use crate::ProcessTable;
 use crate::Reply;
-use crate::Signal;
 use crate::Verdict;
-use crate::rule::rule;
 use crate::well_formed::count_fits;
-use crate::well_formed::posted_by;
-use crate::well_formed::process_fits;
 use crate::well_formed::process_verdict;
+use process::posted_by;
+use process::process_fits;
+use process::rule;
 ghost use mathlib.Core.Path.{_≡_};
-ghost use Rattle.rendezvous.specs.Rules.{changed};
 ghost use Rattle.rendezvous.specs.Calls.{step};
-
-impl Process {
-    // The record after its partner's rule, which can change the wake count and the signal.
-    fn told(self, accepting: bool, signal: Signal) -> Process
-        ensures { λ r. ⌜ r ≡ changed self (self .place) signal accepting ⌝ }
-    {
-        let place = self.place;
-        let transaction = self.transaction;
-        let guards = self.guards;
-        let altlist = self.altlist;
-        Process {
-            place: place,
-            signal: signal,
-            transaction: transaction,
-            accepting: accepting,
-            count: self.count,
-            altcount: self.altcount,
-            guards: guards,
-            altlist: altlist,
-        }
-    }
-}
 
 impl ProcessTable {
     // Moves process p by one rule, and says its new place or that nothing changed.

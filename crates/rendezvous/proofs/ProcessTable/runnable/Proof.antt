@@ -7,12 +7,12 @@ use native.Mathlib.Omega.{arith}
 use borrow.Author.Needs.{needs}
 use borrow.Author.Tests.{not-true, not-false}
 use lib.ListN.{length}
+use Rattle.process.specs.Rules.{changes}
 use Rattle.rendezvous.specs.WellFormed.{allBelow, countFits, fitsAt}
-use Rattle.rendezvous.specs.Refusals.{tableVerdict}
-use Rattle.rendezvous.specs.Calls.{changes, effectOn, setBelow, runnableSet, runnable}
+use Rattle.rendezvous.specs.Calls.{effectOn, setBelow}
 use Rattle.rendezvous.proofs.Forms.{formed-start, formed-more, formed-end, formed-most}
 use Rattle.rendezvous.proofs.Lengths.{length-mapped}
-use Rattle.rendezvous.proofs.Movers.{member-read}
+use Rattle.rendezvous.proofs.Steps.{member-read}
 use Rattle.rendezvous.proofs.Sets.{set-below, bit-more, set-with, set-without, bit-fits, runnable-gives, runnable-refused}
 use Rattle.rendezvous.proofs.ProcessTable.runnable.Statement.{statement}
 use Rattle.rendezvous.proofs.ProcessTable.runnable.Tie as tie

@@ -1,0 +1,79 @@
+-- Who can change whom: of the partner's record a rule changes the wake count and the signal alone; and whom a record that fits can name.
+use Prim.Native.Nat.{ℕ, zero, suc, _<_}
+use mathlib.Core.Path.{_≡_, refl}
+use mathlib.Core.Bool.{Bool, true, false, not, _&&_}
+use mathlib.Core.List.{List, [], _∷_}
+use mathlib.Core.Option.{Option, some, none}
+use lib.ListN.{getD}
+use lib.Dec.{ltb, leb, eqb}
+use borrow.Author.Tests.{ltb-true}
+use Rattle.alternative.specs.Guards.{mostGuards, blank, firstMatch}
+use Rattle.alternative.proofs.Tests.{and-parts}
+use Rattle.process.specs.Types.{Guard, Found, At, Missing, Signal, Absent, Present, Place, Idle, Entering, Scanning, Trying, Committed, Posting, Opening, Showing, Asleep, Waiting, Met, State, Running, Alt, Sleeping, Process}
+use Rattle.process.specs.Process.{stateOf, indexOf, ownList, postedList, ownGuard}
+use Rattle.process.specs.Rules.{Effect, Neither, Own, Both, changed, scanFrom, scan, try, handOver, absorb, ruleAt, rule, namedBy, partnerOf}
+use Rattle.process.specs.Fits.{allGuards, partnerFits, listFits, processFits}
+
+abbrev pub Kept : Process → Effect → Type 0
+Kept y Neither = Unit {0}
+Kept y (Own x) = Unit {0}
+Kept y (Both x y′) = changed y (y .place) (y′ .signal) (y′ .accepting) ≡ y′
+
+from-kept : (x : Process) (k : ℕ) (y : Process) → Kept y (scanFrom x k)
+unfolding scanFrom
+from-kept x k y = tt
+
+scan-kept : (x : Process) (i : ℕ) (y : Process) (s : State) (older : Bool) → Kept y (scan x i s older)
+scan-kept x i y Running older = from-kept x _ y
+scan-kept x i y Sleeping older = from-kept x _ y
+scan-kept x i y State.Waiting older = tt
+scan-kept x i y Alt true = tt
+scan-kept x i y Alt false = tt
+
+try-kept : (x : Process) (i : ℕ) (y : Process) (accepting : Bool) (found : Found) → Kept y (try x i y accepting found)
+try-kept x i y true (At j) = refl
+try-kept x i y true Missing = from-kept x _ y
+try-kept x i y false (At j) = from-kept x _ y
+try-kept x i y false Missing = from-kept x _ y
+
+absorb-kept : (x y : Process) (s : Signal) → Kept y (absorb x s)
+absorb-kept x y (Present j m) = tt
+absorb-kept x y Absent = tt
+
+at-kept : (p : ℕ) (x : Process) (q : ℕ) (y : Process) (place : Place) → Kept y (ruleAt p x q y place)
+unfolding handOver
+at-kept p x q y Entering = from-kept x 0 y
+at-kept p x q y Asleep = from-kept x 0 y
+at-kept p x q y (Scanning i) = scan-kept x i y (stateOf (y .place)) (ltb (y .transaction .0) (x .transaction .0))
+at-kept p x q y (Trying i) = try-kept x i y (y .accepting) (firstMatch p (ownGuard x i) q (postedList y))
+at-kept p x q y (Committed i j) = refl
+at-kept p x q y Posting = tt
+at-kept p x q y Opening = tt
+at-kept p x q y Showing = tt
+at-kept p x q y Waiting = absorb-kept x y (x .signal)
+at-kept p x q y Idle = tt
+at-kept p x q y (Met i m) = tt
+
+pub rule-kept : (p : ℕ) (x : Process) (q : ℕ) (y : Process) → Kept y (rule p x q y)
+unfolding rule
+rule-kept p x q y = at-kept p x q y (x .place)
+
+-- guards that fit, and a blank one, name a process below n
+named-below : (n p : ℕ) (gs : List Guard) (i : ℕ) → 0 < n → allGuards (partnerFits n p) gs ≡ true → getD gs i blank .partner < n
+unfolding allGuards partnerFits
+named-below n p [] i h e = h
+named-below n p (g ∷ gs) zero h e =
+    let a = not (eqb (g .partner) p) in
+    let b = ltb (g .partner) n in
+    ltb-true (g .partner) n (and-parts a b (and-parts (a && b) (allGuards (partnerFits n p) gs) e .0) .1)
+named-below n p (g ∷ gs) (suc i) h e = named-below n p gs i h (and-parts (not (eqb (g .partner) p) && ltb (g .partner) n) (allGuards (partnerFits n p) gs) e .1)
+
+pub partner-below : (n p : ℕ) (x : Process) (posted : ℕ) → processFits n p x posted ≡ true → 0 < n → partnerOf x < n
+unfolding processFits listFits
+partner-below n p x posted e h = go (indexOf (x .place))
+  where
+    go : (index : Option ℕ) → namedBy x index < n
+    go none = h
+    go (some i) =
+        let own = and-parts (leb (x .count) mostGuards) (allGuards (partnerFits n p) (ownList x)) (and-parts (listFits n p (x .count) (x .guards)) _ e .0) .1 in
+        named-below n p (ownList x) i h own

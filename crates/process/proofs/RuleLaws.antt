@@ -1,0 +1,40 @@
+-- Laws of the rules, by what they read: the place, the signal, the partner's wake count and what the search finds.
+use Prim.Native.Nat.{ℕ, suc, _+_}
+use mathlib.Core.Path.{_≡_, refl, sym, ap, ap₂, _∙_}
+use mathlib.Core.Bool.{Bool, true, false}
+use mathlib.Core.List.{List}
+use native.Mathlib.Numerals.{add-one}
+use Rattle.alternative.specs.Guards.{firstMatch}
+use Rattle.process.specs.Types.{Guard, Found, At, Missing, Signal, Place, Committed, Process}
+use Rattle.process.specs.Rules.{Effect, Both, atPlace, withAccepting, scanFrom, try, absorb, ruleAt, rule}
+
+pub rule-at : (p : ℕ) (x : Process) (q : ℕ) (y : Process) (place : Place) → x .place ≡ place → rule p x q y ≡ ruleAt p x q y place
+unfolding rule
+rule-at p x q y place e = ap (ruleAt p x q y) e
+
+pub absorb-at : (x : Process) (signal : Signal) → x .signal ≡ signal → absorb x (x .signal) ≡ absorb x signal
+absorb-at x signal e = ap (absorb x) e
+
+module _ (x : Process) (i : ℕ) (y : Process) where
+  after : scanFrom x (suc i) ≡ scanFrom x (i + 1)
+  after = rw add-one
+
+  shut : (found : Found) → try x i y false found ≡ scanFrom x (i + 1)
+  shut (At j) = after
+  shut Missing = after
+
+  by-both : (accepting : Bool) (found f : Found) → y .accepting ≡ accepting → found ≡ f → try x i y (y .accepting) found ≡ try x i y accepting f
+  by-both accepting found f = ap₂ (try x i y)
+
+  pub try-shut : (found : Found) → y .accepting ≡ false → try x i y (y .accepting) found ≡ scanFrom x (i + 1)
+  try-shut found e = by-both false found found e refl ∙ shut found
+
+  pub try-missing : (found : Found) → y .accepting ≡ true → found ≡ Missing → try x i y (y .accepting) found ≡ scanFrom x (i + 1)
+  try-missing found e f = by-both true found Missing e f ∙ after
+
+  pub try-found : (found : Found) (j : ℕ) → y .accepting ≡ true → found ≡ At j → try x i y (y .accepting) found ≡ Both (atPlace x (Committed i j)) (withAccepting y false)
+  try-found found j e f = by-both true found (At j) e f
+
+-- a search for a guard's match, made with a copy of the guard
+pub searched : (p : ℕ) (g copy : Guard) (q : ℕ) (hs : List Guard) (result found : Found) → copy ≡ g → result ≡ firstMatch p copy q hs → result ≡ found → firstMatch p g q hs ≡ found
+searched p g copy q hs result found e f h = ap (λ (k : Guard). firstMatch p k q hs) (sym e) ∙ sym f ∙ h

@@ -1,0 +1,49 @@
+-- To be believed. Document 01, "What turns a call away", refusal 7: what it asks of each record. The quoted conditions are those that fail.
+use Prim.Native.Nat.{ℕ}
+use mathlib.Core.Bool.{Bool, true, not, _&&_}
+use mathlib.Core.List.{List, [], _∷_}
+use lib.ListN.{take}
+use lib.Dec.{ltb, leb, eqb}
+use Rattle.alternative.specs.Guards.{mostGuards}
+use Rattle.process.specs.Types.{Guard, Signal, Absent, Present, Place, Idle, Entering, Scanning, Trying, Committed, Posting, Opening, Showing, Asleep, Waiting, Met, Process}
+
+-- every guard of a list passes a test
+unfoldable pub allGuards : (Guard → Bool) → List Guard → Bool
+allGuards test [] = true
+allGuards test (g ∷ gs) = test g && allGuards test gs
+
+-- not "a guard names its own party or one not below n"
+unfoldable pub partnerFits : ℕ → ℕ → Guard → Bool
+partnerFits n p g = not (eqb (g .partner) p) && ltb (g .partner) n
+
+-- not "a list or posted list has over eight guards", and each of them fits
+unfoldable pub listFits : ℕ → ℕ → ℕ → List Guard → Bool
+listFits n p count guards = leb count mostGuards && allGuards (partnerFits n p) (take count guards)
+
+-- not "the index in .. a signal .. has no guard in that party's own list", a list of count guards
+abbrev pub signalFits : ℕ → Signal → Bool
+signalFits count Absent = true
+signalFits count (Present j m) = ltb j count
+
+-- not "the index in A, T, C, .. or an outcome has no guard in that party's own list (not the posted one), or a kept index none in the partner's posted list", a list
+-- of partnerPosted guards
+abbrev pub placeFits : ℕ → ℕ → Place → Bool
+placeFits count partnerPosted (Scanning i) = ltb i count
+placeFits count partnerPosted (Trying i) = ltb i count
+placeFits count partnerPosted (Committed i j) = ltb i count && ltb j partnerPosted
+placeFits count partnerPosted (Met i m) = ltb i count
+placeFits count partnerPosted Idle = true
+placeFits count partnerPosted Entering = true
+placeFits count partnerPosted Posting = true
+placeFits count partnerPosted Opening = true
+placeFits count partnerPosted Showing = true
+placeFits count partnerPosted Asleep = true
+placeFits count partnerPosted Waiting = true
+
+-- process p with record x
+unfoldable pub processFits : ℕ → ℕ → Process → ℕ → Bool
+processFits n p x partnerPosted =
+    listFits n p (x .count) (x .guards)
+    && (listFits n p (x .altcount) (x .altlist)
+    && (signalFits (x .count) (x .signal)
+    && placeFits (x .count) partnerPosted (x .place)))

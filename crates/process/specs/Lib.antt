@@ -1,0 +1,5 @@
+pub mod Types
+pub mod Process
+pub mod Rules
+pub mod Fits
+pub mod Private

@@ -1,0 +1,55 @@
+-- Not to be believed: forms that only contracts of private functions cite.
+use mathlib.Core.Bool.{Bool, true, false, not}
+use lib.Dec.{leb}
+use Rattle.process.specs.Types.{Signal, Absent, Present, Place, Idle, Entering, Scanning, Trying, Committed, Posting, Opening, Showing, Asleep, Waiting, Met, State, Running, Alt, Sleeping, Process}
+use Rattle.process.specs.declared.Change.{Change}
+use Rattle.process.specs.Process.{stateOf}
+use Rattle.process.specs.Rules.{Effect, Neither, Own, Both}
+
+-- an effect on the records x and y in the form of the code: whether anything changed, the own record, the partner's wake count and signal
+abbrev pub changeOf : Process → Process → Effect → Change
+changeOf x y Neither = record { moved = false; own = x; accepting = y .accepting; signal = y .signal }
+changeOf x y (Own x′) = record { moved = true; own = x′; accepting = y .accepting; signal = y .signal }
+changeOf x y (Both x′ y′) = record { moved = true; own = x′; accepting = y′ .accepting; signal = y′ .signal }
+
+-- rule 6's condition: the partner's word is ALT, and its ticket is not smaller
+abbrev pub heldBy : State → Bool → Bool
+heldBy Running younger = false
+heldBy Sleeping younger = false
+heldBy State.Waiting younger = false
+heldBy Alt younger = younger
+
+abbrev pub isHeld : Process → Process → Bool
+isHeld x y = heldBy (stateOf (y .place)) (leb (x .transaction .0) (y .transaction .0))
+
+abbrev pub isPresent : Signal → Bool
+isPresent Absent = false
+isPresent (Present j m) = true
+
+-- whether a rule changes anything
+abbrev pub changesAt : Process → Process → Place → Bool
+changesAt x y (Scanning i) = not (isHeld x y)
+changesAt x y Waiting = isPresent (x .signal)
+changesAt x y Idle = false
+changesAt x y (Met i m) = false
+changesAt x y Entering = true
+changesAt x y (Trying i) = true
+changesAt x y (Committed i j) = true
+changesAt x y Posting = true
+changesAt x y Opening = true
+changesAt x y Showing = true
+changesAt x y Asleep = true
+
+-- the outcome at M, in the form of a signal
+abbrev pub outcomeOf : Place → Signal
+outcomeOf (Met i m) = Present i m
+outcomeOf Idle = Absent
+outcomeOf Entering = Absent
+outcomeOf (Scanning i) = Absent
+outcomeOf (Trying i) = Absent
+outcomeOf (Committed i j) = Absent
+outcomeOf Posting = Absent
+outcomeOf Opening = Absent
+outcomeOf Showing = Absent
+outcomeOf Asleep = Absent
+outcomeOf Waiting = Absent

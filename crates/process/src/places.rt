@@ -1,0 +1,64 @@
+// What a place says: the word that others read, whether a process is idle, and the outcome at M.
+use crate::Place;
+use crate::Signal;
+use crate::State;
+ghost use mathlib.Core.Path.{_≡_};
+ghost use Rattle.process.specs.Process.{stateOf, isIdle};
+ghost use Rattle.process.specs.Private.{outcomeOf};
+
+impl Place {
+    pub fn state(self) -> State
+        ensures { λ r. ⌜ r ≡ stateOf self ⌝ }
+    {
+        match self {
+            Place::Idle => State::Running,
+            Place::Entering => State::Running,
+            Place::Met(_, _) => State::Running,
+            Place::Scanning(_) => State::Alt,
+            Place::Trying(_) => State::Alt,
+            Place::Committed(_, _) => State::Alt,
+            Place::Posting => State::Alt,
+            Place::Opening => State::Alt,
+            Place::Showing => State::Alt,
+            Place::Asleep => State::Sleeping,
+            Place::Waiting => State::Waiting,
+        }
+    }
+
+    pub fn is_idle(self) -> bool
+        ensures { λ r. ⌜ r ≡ isIdle self ⌝ }
+    {
+        match self {
+            Place::Idle => true,
+            Place::Entering => false,
+            Place::Scanning(_) => false,
+            Place::Trying(_) => false,
+            Place::Committed(_, _) => false,
+            Place::Posting => false,
+            Place::Opening => false,
+            Place::Showing => false,
+            Place::Asleep => false,
+            Place::Waiting => false,
+            Place::Met(_, _) => false,
+        }
+    }
+
+    // The outcome at M, in the form of a signal: a guard index with a message, or absent.
+    pub fn outcome(self) -> Signal
+        ensures { λ r. ⌜ r ≡ outcomeOf self ⌝ }
+    {
+        match self {
+            Place::Met(i, m) => Signal::Present(i, m),
+            Place::Idle => Signal::Absent,
+            Place::Entering => Signal::Absent,
+            Place::Scanning(_) => Signal::Absent,
+            Place::Trying(_) => Signal::Absent,
+            Place::Committed(_, _) => Signal::Absent,
+            Place::Posting => Signal::Absent,
+            Place::Opening => Signal::Absent,
+            Place::Showing => Signal::Absent,
+            Place::Asleep => Signal::Absent,
+            Place::Waiting => Signal::Absent,
+        }
+    }
+}
