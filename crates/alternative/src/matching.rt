@@ -75,8 +75,8 @@ pub fn any_enabled(list: [Guard; 8], count: usize) -> bool
         if 8 <= k {
             return false;
         }
-        let h = list[k];
-        if h.enabled {
+        let g = list[k];
+        if g.enabled {
             return true;
         }
         k = k + 1;

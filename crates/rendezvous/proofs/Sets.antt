@@ -36,7 +36,7 @@ set-without member n set e f = rw (add-one, e) (omega (arith, f))
 -- the bits of a set: bit p of a number is its quotient by 2 ^ p, modulo 2
 pow-add : (p d : ℕ) → 2 ^ (p + d) ≡ 2 ^ p * 2 ^ d
 pow-add p zero = rw (add-zero, pow-zero, mul-one)
-pow-add p (suc d) = rw (add-suc, pow-suc, pow-suc, pow-add p d, mul-assoc)
+pow-add p (suc d) = rw (add-suc, pow-suc 2 (p + d), pow-suc 2 d, pow-add p d, mul-assoc)
 
 positive : (p : ℕ) → 0 < 2 ^ p
 positive p = one-le-pow p 2 (omega arith)

@@ -1,7 +1,7 @@
 -- Laws of a step and a collection. The code reads and writes the records at p % 32 and q % 32, which are those of p and its partner where p is a process.
 use Prim.Native.Nat.{ℕ, _<_, _%_}
 use mathlib.Core.Path.{_≡_, refl, sym, ap, _∙_}
-use mathlib.Core.Bool.{Bool, true, false, true≢false, false≢true}
+use mathlib.Core.Bool.{Bool, true, cond}
 use mathlib.Core.List.{List}
 use native.Mathlib.Nat.{mod-eq-of-lt}
 use native.Mathlib.Omega.{arith}
@@ -24,21 +24,26 @@ use Rattle.rendezvous.specs.Calls.{refused, effectOn, applied, stepped, 
 use Rattle.rendezvous.proofs.Forms.{formed-most, formed-fits}
 use Rattle.rendezvous.proofs.Verdicts.{process-passed}
 
--- an effect in the form of the code, written back: the partner first, then the process that steps
-written : (t : ProcessTable) (p q : ℕ) (x : Process) (e : Effect) → Kept (process t q) e → (c : Change) (told : Process) → c ≡ changeOf x (process t q) e
-    → told ≡ changed (process t q) (process t q .place) (c .signal) (c .accepting) → c .moved ≡ true
-    → record { answer = Moved (c .own .place); table = put (put t q told) p (c .own) } ≡ applied t p q e
-written t p q x Neither k c told f g m = absurd (false≢true (sym (ap (λ (d : Change). d .moved) f) ∙ m))
-written t p q x (Own x′) k c told f g m = rw (g, f) (ap with-own (set-getD (t .processes) q nobody))
+-- an effect in the form of the code, written back: the partner first, then the process that steps; where nothing changed, what was read is written again
+written : (t : ProcessTable) (p q : ℕ) (e : Effect) → Kept (process t q) e → (c : Change) (told : Process) → c ≡ changeOf (process t p) (process t q) e
+    → told ≡ changed (process t q) (process t q .place) (c .signal) (c .accepting)
+    → record { answer = cond (c .moved) (Moved (c .own .place)) Unchanged; table = put (put t q told) p (c .own) } ≡ applied t p q e
+written t p q e k c told f g = rw (g, f) (go e k)
   where
-    with-own : List Process → Reply
-    with-own l = record { answer = Moved (x′ .place); table = record { n = t .n; next = t .next; processes = set l p x′ } }
-written t p q x (Both x′ y′) k c told f g m = rw (g, f, k)
+    own : Answer → Process → List Process → Reply
+    own answer x l = record { answer = answer; table = record { n = t .n; next = t .next; processes = set l p x } }
 
-unwritten : (t : ProcessTable) (p q : ℕ) (x y : Process) (e : Effect) (c : Change) → c ≡ changeOf x y e → c .moved ≡ false → record { answer = Unchanged; table = t } ≡ applied t p q e
-unwritten t p q x y Neither c f m = refl
-unwritten t p q x y (Own x′) c f m = absurd (true≢false (sym (ap (λ (d : Change). d .moved) f) ∙ m))
-unwritten t p q x y (Both x′ y′) c f m = absurd (true≢false (sym (ap (λ (d : Change). d .moved) f) ∙ m))
+    again : set (t .processes) q (process t q) ≡ t .processes
+    again = set-getD (t .processes) q nobody
+
+    go : (e : Effect) → Kept (process t q) e → let d = changeOf (process t p) (process t q) e in
+        record { answer = cond (d .moved) (Moved (d .own .place)) Unchanged; table = put (put t q (changed (process t q) (process t q .place) (d .signal) (d .accepting))) p (d .own) } ≡ applied t p q e
+    go Neither k = ap (own Unchanged (process t p)) again ∙ ap (λ (l : List Process). with-list l) (set-getD (t .processes) p nobody)
+      where
+        with-list : List Process → Reply
+        with-list l = record { answer = Unchanged; table = record { n = t .n; next = t .next; processes = l } }
+    go (Own x) k = ap (own (Moved (x .place)) x) again
+    go (Both x y) k = rw k
 
 -- a process that fits, and its partner, below n
 partner-inside : (t : ProcessTable) (p : ℕ) → fitsAt t p ≡ true → 0 < t .n → partnerOf (process t p) < t .n
@@ -75,15 +80,12 @@ module _ (t : ProcessTable) (p : ℕ) (accepted : processVerdict t p ≡ Accepte
   effect : c ≡ changeOf (process t p) (process t q) (rule p (process t p) q (process t q))
   effect = rw (inside t p accepted .own, q-inside) at e
 
-  pub step-moves : (told : Process) → told ≡ changed (process t (q % 32)) (process t (q % 32) .place) (c .signal) (c .accepting) → c .moved ≡ true
-      → record { answer = Moved (c .own .place); table = put (put t (q % 32) told) (p % 32) (c .own) } ≡ step t p
+  pub step-accepted : (told : Process) → told ≡ changed (process t (q % 32)) (process t (q % 32) .place) (c .signal) (c .accepting) → (answer : Answer)
+      → answer ≡ cond (c .moved) (Moved (c .own .place)) Unchanged → record { answer = answer; table = put (put t (q % 32) told) (p % 32) (c .own) } ≡ step t p
   unfolding step stepped effectOn
-  step-moves told f m =
-      rw (accepted, inside t p accepted .own, q-inside, ← at-q) (written t p q (process t p) (rule p (process t p) q (process t q)) (rule-kept p (process t p) q (process t q)) c told effect (rw q-inside at f) m)
-
-  pub step-stays : c .moved ≡ false → record { answer = Unchanged; table = t } ≡ step t p
-  unfolding step stepped effectOn
-  step-stays m = rw (accepted, ← at-q) (unwritten t p q (process t p) (process t q) (rule p (process t p) q (process t q)) c effect m)
+  step-accepted told f answer g =
+      rw (g, accepted, inside t p accepted .own, q-inside, ← at-q)
+      (written t p q (rule p (process t p) q (process t q)) (rule-kept p (process t p) q (process t q)) c told effect (rw q-inside at f))
 
 pub step-refused : (t : ProcessTable) (p : ℕ) (r : Refusal) → processVerdict t p ≡ Verdict.Refused r → record { answer = Answer.Refused r; table = t } ≡ step t p
 unfolding step

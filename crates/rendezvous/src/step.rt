@@ -5,11 +5,24 @@ use crate::Reply;
 use crate::Verdict;
 use crate::well_formed::count_fits;
 use crate::well_formed::process_verdict;
+use process::Place;
 use process::posted_by;
 use process::process_fits;
 use process::rule;
 ghost use mathlib.Core.Path.{_≡_};
+ghost use mathlib.Core.Bool.{cond};
 ghost use Rattle.rendezvous.specs.Calls.{step};
+
+// What a step says: the new place, or that nothing changed.
+fn moved_answer(moved: bool, place: Place) -> Answer
+    ensures { λ r. ⌜ r ≡ cond moved (Answer.Moved place) Answer.Unchanged ⌝ }
+{
+    if moved {
+        Answer::Moved(place)
+    } else {
+        Answer::Unchanged
+    }
+}
 
 impl ProcessTable {
     // Moves process p by one rule, and says its new place or that nothing changed.
@@ -44,19 +57,11 @@ impl ProcessTable {
                 let own = c.own;
                 let place = own.place;
                 let signal = c.signal;
-                let partner = y.told(c.accepting, signal);
-                if c.moved {
-                    t.processes[j] = partner;
-                    t.processes[i] = own;
-                    Reply {
-                        answer: Answer::Moved(place),
-                        table: t,
-                    }
-                } else {
-                    Reply {
-                        answer: Answer::Unchanged,
-                        table: t,
-                    }
+                t.processes[j] = y.told(c.accepting, signal);
+                t.processes[i] = own;
+                Reply {
+                    answer: moved_answer(c.moved, place),
+                    table: t,
                 }
             }
         }

@@ -7,7 +7,7 @@ use lib.ListN.{length}
 use Rattle.rendezvous.specs.WellFormed.{allBelow, countFits, fitsAt}
 use Rattle.rendezvous.proofs.Forms.{formed-start, formed-more, formed-end}
 use Rattle.rendezvous.proofs.Lengths.{length-mapped}
-use Rattle.rendezvous.proofs.Steps.{process-asked, step-refused, step-moves, step-stays}
+use Rattle.rendezvous.proofs.Steps.{process-asked, step-refused, step-accepted}
 use Rattle.rendezvous.proofs.ProcessTable.step.Statement.{statement}
 use Rattle.rendezvous.proofs.ProcessTable.step.Tie as tie
 
@@ -42,16 +42,7 @@ returns-2 c =
     let l = v .before .before .before .before .before in
     let formed = formed-end _ (l .loop .k) _ (omega arith) (l .loop .inv .2) in
     let accepted = process-asked _ _ _ _ formed (v .process-verdict .ensures) ∙ r .before .enum-told .given .1 in
-    step-moves _ _ accepted _ (v .before .before .partner2 .ensures) _ (r .rule .ensures) _ (c .before .told .ensures) (c .if1 .taken)
-
-returns-3 : tie.Need-returns-3 Inv-loop μ-loop
-returns-3 c =
-    let r = c .before .before .before in
-    let v = r .before .before .before in
-    let l = v .before .before .before .before .before in
-    let formed = formed-end _ (l .loop .k) _ (omega arith) (l .loop .inv .2) in
-    let accepted = process-asked _ _ _ _ formed (v .process-verdict .ensures) ∙ r .before .enum-told .given .1 in
-    step-stays _ _ accepted _ (v .before .before .partner2 .ensures) _ (r .rule .ensures) (c .if1 .left)
+    step-accepted _ _ accepted _ (v .before .before .partner2 .ensures) _ (r .rule .ensures) _ (c .before .told .ensures) _ (c .moved-answer .ensures)
 
 pub step-spec : {M : Type 1} → statement M
 step-spec =
@@ -89,6 +80,6 @@ step-spec =
     (λ c. omega arith)
     (λ c. omega arith)
     (λ c. omega arith)
+    (λ c κs. search needs)
     returns
-    returns-2
-    returns-3)
+    returns-2)
