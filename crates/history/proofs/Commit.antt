@@ -1,7 +1,8 @@
--- The book goes along with a commit, and so with every step.
+-- The book follows a commit, and so every step.
 use Prim.Native.Nat.{ℕ, suc, _<_}
-use mathlib.Core.Path.{_≡_, refl, sym, _∙_, ap, subst⁻¹}
+use mathlib.Core.Path.{_≡_, refl, sym, _∙_, subst, subst⁻¹}
 use mathlib.Core.Bool.{Bool, true, false, cond, true≢false, false≢true}
+use mathlib.Core.List.{[], _∷_}
 use mathlib.Core.Option.{some, none}
 use lib.Dec.{ltb}
 use borrow.Author.Tests.{eq-eqb, ne-eqb}
@@ -12,26 +13,26 @@ use Rattle.alternative.specs.declared.Found.{Found}
 use Rattle.alternative.specs.declared.Found.the-variants.{At, Missing}
 use Rattle.alternative.specs.Guards.{opposite, guardsMatch, firstMatch}
 use Rattle.alternative.specs.Exchange.{sentBy, receivedBy}
-use Rattle.rendezvous.specs.declared.Signal.{Signal}
-use Rattle.rendezvous.specs.declared.Signal.the-variants.{Absent, Present}
-use Rattle.rendezvous.specs.declared.Place.{Place}
-use Rattle.rendezvous.specs.declared.Place.the-variants.{Idle, Entering, Scanning, Trying, Committed, Posting, Opening, Showing, Asleep, Waiting, Met}
+use Rattle.process.specs.declared.Place.{Place}
+use Rattle.process.specs.declared.Place.the-variants.{Idle, Entering, Scanning, Trying, Committed, Posting, Opening, Showing, Asleep, Waiting, Met}
+use Rattle.process.specs.declared.Process.{Process}
 use Rattle.rendezvous.specs.declared.ProcessTable.{ProcessTable}
-use Rattle.rendezvous.specs.Table.{stateOf, ownList, ownGuard, postedList, process, openAt, isOpen}
-use Rattle.rendezvous.specs.Rules.{Both, atPlace, withAccepting, try, ruleAt, rule, partnerAt}
+use Rattle.process.specs.Process.{stateOf, indexOf, ownList, ownGuard, postedList, openAt}
+use Rattle.rendezvous.specs.Table.{process}
+use Rattle.process.specs.Rules.{Both, atPlace, withAccepting, try, ruleAt, rule, namedBy}
 use Rattle.rendezvous.specs.Calls.{applied, effectOn, stepped}
-use Rattle.rendezvous.specs.Numbers.{C}
 use Rattle.history.specs.Run.{Step}
-use Rattle.history.specs.Book.{Transaction, History, at, messageOf, dueMessage, meeting, committing, enter}
+use Rattle.history.specs.Book.{Transaction, Rendezvous, History, messageOf, dueMessage, withRendezvous, committing, enter}
+use Rattle.history.specs.Demand3.{Joins}
 use Rattle.history.proofs.View.{View}
 use Rattle.history.proofs.Invariant.{Shows, Good}
-use Rattle.history.proofs.Entry.{not-some, some-is, Stopped, match-stopped, entry}
-use Rattle.history.proofs.Once.{Outward, once-entry}
-use Rattle.history.proofs.Joining.{Match, match-parts}
-use Rattle.history.proofs.Facts.{shows-at, on-there, there-is, named, fine-at, shown, accepting-shows, partner-is, commit-binds, unbound}
-use Rattle.history.proofs.Replies.{put-two}
-use Rattle.history.proofs.Due.{offerOf, listsOf, DueAt, DueBy, Agrees, KeptOf, Kept, agrees-other, offer-at, each-two}
-use Rattle.history.proofs.Link.{Followed, stays, moves, scans, scan-followed, absorbs, signals}
+use Rattle.history.proofs.Matches.{Match, match, Searched, searched, on-there, NamesOther}
+use Rattle.history.proofs.Places.{shows-elim}
+use Rattle.history.proofs.Facts.{fine, at-names, shown, accepts, commit-binds, unbound}
+use Rattle.history.proofs.GoodTable.{put-two}
+use Rattle.history.proofs.Once.{once-commits}
+use Rattle.history.proofs.Due.{offerOf, listsOf, DueAt, Agrees, KeptOf, Kept, agrees-other, offer-at, each-two}
+use Rattle.history.proofs.Followed.{Followed, stays, moves, scans, scan-followed, absorbs, signals}
 
 -- the book's messages are rule 9's
 mine-message : (g h : Action) → dueMessage g (messageOf g h) ≡ receivedBy g h
@@ -46,135 +47,141 @@ theirs-message (Send m) (Send n) e = absurd (false≢true e)
 
 -- an offer shown is open while its wake count is 0
 shows-open : (place : Place) (accepting : Bool) (o : Transaction) → Shows place → cond (openAt place accepting) (some o) none ≡ cond accepting (some o) none
-shows-open place accepting o s = shows-at (λ l. cond (openAt l accepting) (some o) none ≡ cond accepting (some o) none) place s refl refl
-
--- the open offers of a book kept with a good table name other processes only
-open-is : (c : Bool) (o r : Transaction) → cond c (some o) none ≡ some r → o ≡ r
-open-is true o r e = some-is o r e
-open-is false o r e = not-some r e
-
-pub outward : {t : ProcessTable} {b : History} → Good t → Kept t b → Outward (b .opened)
-outward {t} good k p o e i g h =
-    let l : ownList (process t p) ≡ o .guards = ap (λ (c : Transaction). c .guards) (open-is (isOpen (process t p)) (offerOf (process t p)) o (k .each p .offer ∙ e)) in
-    named (t .n) p _ _ i g (good .inv .alone p .own) (rw l h) .0
+shows-open place accepting o = shows-elim (λ l. cond (openAt l accepting) (some o) none ≡ cond accepting (some o) none) refl refl place
 
 module _ {t : ProcessTable} (good : Good t) {b : History} (k : Kept t b) (p : ℕ) (below : p < t .n) (i j : ℕ) (e : process t p .place ≡ Trying i)
-    (accepts : process t (ownGuard (process t p) i .partner) .accepting ≡ true)
+    (accepting : process t (ownGuard (process t p) i .partner) .accepting ≡ true)
     (f : firstMatch p (ownGuard (process t p) i) (ownGuard (process t p) i .partner) (postedList (process t (ownGuard (process t p) i .partner))) ≡ At j) where
-  commits : Followed b (Step p) (applied t p (ownGuard (process t p) i .partner) (Both (atPlace (process t p) (Committed i j)) (withAccepting (process t (ownGuard (process t p) i .partner)) false)))
-  unfolding enter meeting committing
+  commits : Followed t b (Step p) (applied t p (ownGuard (process t p) i .partner) (Both (atPlace (process t p) (Committed i j)) (withAccepting (process t (ownGuard (process t p) i .partner)) false)))
+  unfolding enter withRendezvous committing
   commits = record {
-    next = next;
-    entered = entered;
+    after = after;
+    entered = rw (open-p, on-there (ownList x) i (m .here), open-q, found, on-there (ownList y) j (m .there));
+    run = rw posted;
+    joins = λ r z. subst (Joins b) (the-one _ r z) (record {
+      mine = offerOf x;
+      theirs = offerOf y;
+      g = g;
+      h = h;
+      mine-open = open-p;
+      theirs-open = open-q;
+      mine-id = refl;
+      theirs-id = refl;
+      mine-guard = on-there (ownList x) i (m .here);
+      theirs-guard = on-there (ownList y) j (m .there);
+      two = partner .other;
+      match = matching;
+    });
     ticket = tt;
     outcome = tt;
-    kept = subst⁻¹ (λ (v : View). KeptOf (t .next .0) v next) (put-two t good p _ below q _ (partner .1)) (record {
+    kept = subst⁻¹ (λ (v : View). KeptOf (t .next .0) v after) (put-two good p _ below q _ (partner .below)) (record {
       counts = k .counts;
-      each = each-two (process t) next p q _ _ refl refl mine theirs others;
-      once = once-entry b next (k .once) (outward good k) (entry b next (Step p) (at C (some i)) entered);
+      each = each-two (process t) after p q _ _ refl refl mine theirs others;
+      once = once-commits (k .once) p q (offerOf x) (offerOf y) _ (partner .other) open-p open-q refl refl;
     });
   }
     where
+      x : Process
+      x = process t p
+
       g : Guard
-      g = ownGuard (process t p) i
+      g = ownGuard x i
 
       q : ℕ
       q = g .partner
 
+      y : Process
+      y = process t q
+
       h : Guard
-      h = ownGuard (process t q) j
+      h = ownGuard y j
 
-      partner : (p ≡ q → ⊥) × (q < t .n)
-      partner = partner-is (good .inv) p i (fine-at (good .inv) p e .1)
+      partner : NamesOther (t .n) p g
+      partner = at-names (process t) (good .inv) p i (rw e refl)
 
-      shows : Shows (process t q .place)
-      shows = accepting-shows (good .inv) q accepts
+      shows : Shows (y .place)
+      shows = accepts (process t) (good .inv) q accepting
 
-      found : firstMatch p g q (ownList (process t q)) ≡ At j
-      found = rw (shown (good .inv) q shows .1) at f
+      posted : postedList y ≡ ownList y
+      posted = shown (process t) (good .inv) q shows .posted
 
-      stopped : Stopped (guardsMatch p g q) (ownList (process t q)) j
-      stopped = match-stopped p g q (ownList (process t q)) j found
+      found : firstMatch p g q (ownList y) ≡ At j
+      found = rw posted at f
 
-      is-h : h ≡ stopped .guard
-      is-h = there-is (ownList (process t q)) j (stopped .guard) (stopped .there)
+      matching : guardsMatch p g q h ≡ true
+      matching = subst (Searched p g q (ownList y)) found (searched p g q (ownList y))
 
-      match : Match p g q h
-      match = match-parts p g q h (rw is-h (stopped .passes))
+      m : Match p g q h
+      m = match matching
+
+      the-one : (r s : Rendezvous) → r ∷ [] ≡ s ∷ [] → r ≡ s
+      the-one r s z = cc
 
       apart : q ≡ p → ⊥
-      apart z = partner .0 (sym z)
+      apart z = partner .other (sym z)
 
-      next : History
-      next = meeting b p i (offerOf (process t p)) g j (offerOf (process t q)) h
+      after : History
+      after = withRendezvous b p i (offerOf x) g j (offerOf y) h
 
-      open-p : b .opened p ≡ some (offerOf (process t p))
+      open-p : b .opened p ≡ some (offerOf x)
       open-p = sym (offer-at (k .each p) e)
 
-      open-q : b .opened q ≡ some (offerOf (process t q))
-      open-q = sym (k .each q .offer) ∙ shows-open (process t q .place) _ (offerOf (process t q)) shows ∙ rw accepts refl
+      open-q : b .opened q ≡ some (offerOf y)
+      open-q = sym (k .each q .offer) ∙ shows-open (y .place) _ (offerOf y) shows ∙ rw accepting refl
 
-      entered : committing b p i ≡ some next
-      entered = rw (open-p, on-there (ownList (process t p)) i (match .g-enabled), open-q, found, on-there (ownList (process t q)) j (match .h-enabled))
-
-      mine : Agrees (listsOf (process t)) next p (atPlace (process t p) (Committed i j))
+      mine : Agrees (listsOf (process t)) after p (atPlace x (Committed i j))
       mine = record {
         offer = rw (eq-eqb p p refl) refl;
         at = record {
           mine = rw (eq-eqb p p refl, mine-message (g .action) (h .action));
-          theirs = rw (ne-eqb q p apart, eq-eqb q q refl, theirs-message (g .action) (h .action) (match .one-sends));
+          theirs = rw (ne-eqb q p apart, eq-eqb q q refl, theirs-message (g .action) (h .action) (m .one-sends));
         };
-        told = rw (fine-at (good .inv) p e .0 .1) tt;
+        told = rw (fine (process t) (good .inv) p _ e .1) tt;
       }
 
-      -- a process that accepts has no signal
-      quiet : (s : Signal) → process t q .signal ≡ s → DueBy (ownList (process t q)) s (next .due q)
-      quiet Absent z = tt
-      quiet (Present l m) z = absurd (true≢false (sym accepts ∙ shown (good .inv) q shows .0 .woken l m z))
-
-      theirs : Agrees (listsOf (process t)) next q (withAccepting (process t q) false)
+      theirs : Agrees (listsOf (process t)) after q (withAccepting y false)
       theirs = record {
-        offer = shows-open (process t q .place) false (offerOf (process t q)) shows ∙ rw (ne-eqb q p apart, eq-eqb q q refl) refl;
-        at = shows-at (DueAt (listsOf (process t)) (next .due) q (ownList (process t q))) (process t q .place) shows tt tt;
-        told = quiet (process t q .signal) refl;
+        offer = shows-open (y .place) false (offerOf y) shows ∙ rw (ne-eqb q p apart, eq-eqb q q refl) refl;
+        at = shows-elim (DueAt (listsOf (process t)) (after .due) q (ownList y)) tt tt (y .place) shows;
+        told = rw (shown (process t) (good .inv) q shows .deaf accepting) tt;
       }
 
       -- what another's commit has pledged is not p's or q's: p tries, and q accepts
-      free : (r a c : ℕ) → process t r .place ≡ Committed a c → next .due (ownGuard (process t r) a .partner) ≡ b .due (ownGuard (process t r) a .partner)
+      free : (r a c : ℕ) → process t r .place ≡ Committed a c → after .due (ownGuard (process t r) a .partner) ≡ b .due (ownGuard (process t r) a .partner)
       free r a c z = rw (
-        ne-eqb (ownGuard (process t r) a .partner) p (unbound (good .inv) p e (λ s. s) r a c z),
-        ne-eqb (ownGuard (process t r) a .partner) q (λ s. true≢false (sym accepts ∙ (rw s at (commit-binds (good .inv) r a c z .0 .woken)))),
+        ne-eqb (ownGuard (process t r) a .partner) p (unbound (process t) (good .inv) p _ e (λ s. s) r a c z),
+        ne-eqb (ownGuard (process t r) a .partner) q (λ s. true≢false (sym accepting ∙ (rw s at (commit-binds (process t) (good .inv) r a c z .0 .woken)))),
       )
 
-      others : (r : ℕ) → (r ≡ p → ⊥) → (r ≡ q → ⊥) → Agrees (listsOf (process t)) next r (process t r)
-      others r rp rq = agrees-other (listsOf (process t)) (listsOf (process t)) b next r (process t r)
+      others : (r : ℕ) → (r ≡ p → ⊥) → (r ≡ q → ⊥) → Agrees (listsOf (process t)) after r (process t r)
+      others r rp rq = agrees-other (listsOf (process t)) (listsOf (process t)) b after r (process t r)
           (rw (ne-eqb r p rp, ne-eqb r q rq)) (rw (ne-eqb r p rp, ne-eqb r q rq)) (λ a c z. (refl, free r a c z)) (k .each r)
 
 module _ {t : ProcessTable} (good : Good t) {b : History} (k : Kept t b) (p : ℕ) (below : p < t .n) where
   -- rules 7 and 8: the search found a guard and the partner accepts, or the scan goes on
-  tries : (i : ℕ) → process t p .place ≡ Trying i → (accepting : Bool) → process t (ownGuard (process t p) i .partner) .accepting ≡ accepting
-      → (found : Found) → firstMatch p (ownGuard (process t p) i) (ownGuard (process t p) i .partner) (postedList (process t (ownGuard (process t p) i .partner))) ≡ found
-      → Followed b (Step p) (applied t p (ownGuard (process t p) i .partner) (try (process t p) i (process t (ownGuard (process t p) i .partner)) accepting found))
+  tries : (i : ℕ) → process t p .place ≡ Trying i → let q = ownGuard (process t p) i .partner in (accepting : Bool) → process t q .accepting ≡ accepting
+      → (found : Found) → firstMatch p (ownGuard (process t p) i) q (postedList (process t q)) ≡ found
+      → Followed t b (Step p) (applied t p q (try (process t p) i (process t q) accepting found))
   tries i e true a (At j) f = commits good k p below i j e a f
   tries i e true a Missing f = scans good k p below _ (suc i) (offer-at (k .each p) e)
   tries i e false a (At j) f = scans good k p below _ (suc i) (offer-at (k .each p) e)
   tries i e false a Missing f = scans good k p below _ (suc i) (offer-at (k .each p) e)
 
-  step-at : (place : Place) → process t p .place ≡ place
-      → Followed b (Step p) (applied t p (partnerAt (process t p) place) (ruleAt p (process t p) (partnerAt (process t p) place) (process t (partnerAt (process t p) place)) place))
+  step-at : (place : Place) → process t p .place ≡ place → let q = namedBy (process t p) (indexOf place) in
+      Followed t b (Step p) (applied t p q (ruleAt p (process t p) q (process t q) place))
   step-at Idle e = stays good k p below
   step-at Entering e = scans good k p below _ 0 (offer-at (k .each p) e)
   step-at (Scanning i) e = scan-followed good k p below i e
       (stateOf (process t (ownGuard (process t p) i .partner) .place)) (ltb (process t (ownGuard (process t p) i .partner) .transaction .0) (process t p .transaction .0))
   step-at (Trying i) e = tries i e _ refl _ refl
   step-at (Committed i j) e = signals good k p below i j e
-  step-at Posting e = moves good k p below _ refl refl (offer-at (k .each p) e) tt (k .each p .told)
-  step-at Opening e = moves good k p below _ refl refl (offer-at (k .each p) e) tt (k .each p .told)
-  step-at Showing e = moves good k p below _ refl refl (offer-at (k .each p) e) tt (k .each p .told)
+  step-at Posting e = moves good k p below _ refl refl refl (offer-at (k .each p) e) tt (k .each p .told)
+  step-at Opening e = moves good k p below _ refl refl refl (offer-at (k .each p) e) tt (k .each p .told)
+  step-at Showing e = moves good k p below _ refl refl refl (offer-at (k .each p) e) tt (k .each p .told)
   step-at Asleep e = scans good k p below _ 0 (offer-at (k .each p) e)
   step-at Waiting e = absorbs good k p below e (process t p .signal) refl
   step-at (Met i m) e = stays good k p below
 
-  pub step-followed : Followed b (Step p) (stepped t p)
+  pub step-followed : Followed t b (Step p) (stepped t p)
   unfolding stepped effectOn rule
   step-followed = step-at (process t p .place) refl

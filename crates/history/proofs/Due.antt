@@ -8,20 +8,21 @@ use lib.ListN.{getD}
 use Rattle.alternative.specs.declared.Guard.{Guard}
 use Rattle.alternative.specs.Guards.{blank}
 use Rattle.alternative.specs.Exchange.{sentBy, receivedBy}
-use Rattle.rendezvous.specs.declared.Signal.{Signal}
-use Rattle.rendezvous.specs.declared.Signal.the-variants.{Absent, Present}
-use Rattle.rendezvous.specs.declared.Place.{Place}
-use Rattle.rendezvous.specs.declared.Place.the-variants.{Idle, Entering, Scanning, Trying, Committed, Posting, Opening, Showing, Asleep, Waiting, Met}
-use Rattle.rendezvous.specs.declared.Process.{Process}
+use Rattle.process.specs.declared.Signal.{Signal}
+use Rattle.process.specs.declared.Signal.the-variants.{Absent, Present}
+use Rattle.process.specs.declared.Place.{Place}
+use Rattle.process.specs.declared.Place.the-variants.{Idle, Entering, Scanning, Trying, Committed, Posting, Opening, Showing, Asleep, Waiting, Met}
+use Rattle.process.specs.declared.Process.{Process}
 use Rattle.rendezvous.specs.declared.ProcessTable.{ProcessTable}
-use Rattle.rendezvous.specs.Table.{ownList, ownGuard, process, openAt, isOpen}
+use Rattle.process.specs.Process.{ownList, ownGuard, openAt, isOpen}
+use Rattle.rendezvous.specs.Table.{process}
 use Rattle.history.specs.Book.{Transaction, Due, History}
-use Rattle.history.proofs.View.{View, upd, upd-each}
+use Rattle.history.proofs.View.{View, upd, entered-each}
 use Rattle.history.proofs.Once.{Once}
 
 -- the offer of a process with record x, and if it is open
 abbrev pub offerOf : Process → Transaction
-offerOf x = record { ticket = x .transaction .0; guards = ownList x }
+offerOf x = record { id = x .transaction .0; guards = ownList x }
 
 abbrev pub openOf : Process → Option Transaction
 openOf x = cond (isOpen x) (some (offerOf x)) none
@@ -104,11 +105,11 @@ agrees-other lists lists' b b' p x o d h a = record {
 
 -- new records with the lists of the old
 pub lists-same : (v : View) (p : ℕ) (x : Process) → ownList x ≡ ownList (v p) → listsOf (upd v p x) ≡ listsOf v
-lists-same v p x e = fun-ext (upd-each (λ q y. ownList y ≡ ownList (v q)) v p x e (λ q _. refl))
+lists-same v p x e = fun-ext (entered-each (λ q y. ownList y ≡ ownList (v q)) v p x e (λ q _. refl))
 
 -- two new records, with the lists of the old
 pub upd-two : (F : ℕ → Process → Type 0) (v : View) (p q : ℕ) (x y : Process) → F p x → F q y → ((r : ℕ) → (r ≡ p → ⊥) → (r ≡ q → ⊥) → F r (v r)) → (r : ℕ) → F r (upd (upd v q y) p x r)
-upd-two F v p q x y a c d = upd-each F (upd v q y) p x a (λ r rp. upd-each (λ r z. (r ≡ p → ⊥) → F r z) v q y (λ _. c) (λ r rq rp. d r rp rq) r rp)
+upd-two F v p q x y a c d = entered-each F (upd v q y) p x a (λ r rp. entered-each (λ r z. (r ≡ p → ⊥) → F r z) v q y (λ _. c) (λ r rq rp. d r rp rq) r rp)
 
 pub each-two : (v : View) (b : History) (p q : ℕ) (x y : Process) → ownList x ≡ ownList (v p) → ownList y ≡ ownList (v q)
     → Agrees (listsOf v) b p x → Agrees (listsOf v) b q y → ((r : ℕ) → (r ≡ p → ⊥) → (r ≡ q → ⊥) → Agrees (listsOf v) b r (v r))

@@ -1,21 +1,23 @@
 -- What holds of each process, and of each two, on every table that is reached.
-use Prim.Native.Nat.{ℕ, suc, _≤_, _<_}
+use Prim.Native.Nat.{ℕ, _≤_, _<_}
 use mathlib.Core.Path.{_≡_}
 use mathlib.Core.List.{List}
 use mathlib.Core.Bool.{Bool, true, false}
+use mathlib.Core.Option.{Option, some, none}
 use lib.ListN.{getD, length}
-use Rattle.alternative.specs.declared.Message.{Message}
 use Rattle.alternative.specs.declared.Guard.{Guard}
 use Rattle.alternative.specs.Guards.{blank, guardsMatch}
-use Rattle.rendezvous.specs.declared.Signal.{Signal}
-use Rattle.rendezvous.specs.declared.Signal.the-variants.{Absent, Present}
-use Rattle.rendezvous.specs.declared.Place.{Place}
-use Rattle.rendezvous.specs.declared.Place.the-variants.{Idle, Entering, Scanning, Trying, Committed, Posting, Opening, Showing, Asleep, Waiting, Met}
-use Rattle.rendezvous.specs.declared.Process.{Process}
+use Rattle.process.specs.declared.Signal.{Signal}
+use Rattle.process.specs.declared.Signal.the-variants.{Absent}
+use Rattle.process.specs.declared.Place.{Place}
+use Rattle.process.specs.declared.Place.the-variants.{Idle, Entering, Scanning, Trying, Committed, Posting, Opening, Showing, Asleep, Waiting, Met}
+use Rattle.process.specs.declared.State.{State}
+use Rattle.process.specs.declared.State.the-variants.{Running, Alt, Sleeping}
+use Rattle.process.specs.declared.Process.{Process}
 use Rattle.rendezvous.specs.declared.ProcessTable.{ProcessTable}
-use Rattle.rendezvous.specs.Table.{mostProcesses, ownList, postedList, ownGuard, process}
-use Rattle.rendezvous.specs.WellFormed.{listFits}
-use Rattle.rendezvous.specs.Refusals.{isIdle}
+use Rattle.process.specs.Process.{stateOf, indexOf, ownList, postedList, ownGuard, isIdle}
+use Rattle.rendezvous.specs.Table.{mostProcesses, process}
+use Rattle.process.specs.Fits.{listFits}
 use Rattle.history.proofs.View.{View}
 
 -- the offer is open and its scan is past guard k
@@ -74,52 +76,65 @@ Shows Asleep = ⊥
 Shows Waiting = Unit {0}
 Shows (Met i m) = ⊥
 
--- at W
+-- a place whose word rule 3 goes by, and W, which rule 4 goes by
+abbrev pub QuietState : State → Type 0
+QuietState Running = Unit {0}
+QuietState Sleeping = Unit {0}
+QuietState Alt = ⊥
+QuietState State.Waiting = ⊥
+
+abbrev pub Quiet : Place → Type 0
+Quiet pl = QuietState (stateOf pl)
+
+abbrev pub WaitingState : State → Type 0
+WaitingState Running = ⊥
+WaitingState Sleeping = ⊥
+WaitingState Alt = ⊥
+WaitingState State.Waiting = Unit {0}
+
 abbrev pub Waits : Place → Type 0
-Waits Idle = ⊥
-Waits Entering = ⊥
-Waits (Scanning i) = ⊥
-Waits (Trying i) = ⊥
-Waits (Committed i j) = ⊥
-Waits Posting = ⊥
-Waits Opening = ⊥
-Waits Showing = ⊥
-Waits Asleep = ⊥
-Waits Waiting = Unit {0}
-Waits (Met i m) = ⊥
+Waits pl = WaitingState (stateOf pl)
 
 -- guard i of a list is enabled, and so it is there
 abbrev pub On : List Guard → ℕ → Type 0
 On gs i = getD gs i blank .enabled ≡ true
 
+-- the guard that a place carries, if it carries one, is enabled
+abbrev pub OnAt : List Guard → Option ℕ → Type 0
+OnAt gs (some i) = On gs i
+OnAt gs none = Unit {0}
+
 -- wake count 1 and no signal
 abbrev pub Calm : Bool → Signal → Type 0
 Calm accepting signal = (accepting ≡ false) × (signal ≡ Absent)
 
--- at H or W a signal comes after the wake count is 1, and names an enabled guard
-pub record Heard (gs : List Guard) (accepting : Bool) (signal : Signal) : Type 0 where
-  pub woken : (j : ℕ) (m : Message) → signal ≡ Present j m → accepting ≡ false
-  pub named : (j : ℕ) (m : Message) → signal ≡ Present j m → On gs j
+-- at H or W the own list gs is posted as hs, and a signal comes after the wake count is 1
+pub record Shown (gs hs : List Guard) (accepting : Bool) (signal : Signal) : Type 0 where
+  pub posted : hs ≡ gs
+  pub deaf : accepting ≡ true → signal ≡ Absent
 
 -- what a place says of the own list gs, the posted list hs, the wake count and the signal
 abbrev pub Fine : Place → List Guard → List Guard → Bool → Signal → Type 0
 Fine Idle gs hs accepting signal = Calm accepting signal
 Fine Entering gs hs accepting signal = Calm accepting signal
-Fine (Scanning i) gs hs accepting signal = Calm accepting signal × On gs i
-Fine (Trying i) gs hs accepting signal = Calm accepting signal × On gs i
-Fine (Committed i j) gs hs accepting signal = Calm accepting signal × On gs i
+Fine (Scanning i) gs hs accepting signal = Calm accepting signal
+Fine (Trying i) gs hs accepting signal = Calm accepting signal
+Fine (Committed i j) gs hs accepting signal = Calm accepting signal
 Fine Posting gs hs accepting signal = Calm accepting signal
 Fine Opening gs hs accepting signal = Calm accepting signal × (hs ≡ gs)
-Fine Showing gs hs accepting signal = Heard gs accepting signal × (hs ≡ gs)
+Fine Showing gs hs accepting signal = Shown gs hs accepting signal
 Fine Asleep gs hs accepting signal = Calm accepting signal
-Fine Waiting gs hs accepting signal = Heard gs accepting signal × (hs ≡ gs)
-Fine (Met i m) gs hs accepting signal = Calm accepting signal × On gs i
+Fine Waiting gs hs accepting signal = Shown gs hs accepting signal
+Fine (Met i m) gs hs accepting signal = Calm accepting signal
 
--- of process p with record x, in a table of n
-pub record Alone (n p : ℕ) (x : Process) : Type 0 where
+-- of process p with record x, in a table of n processes with this next ticket
+pub record Alone (n next p : ℕ) (x : Process) : Type 0 where
   pub fine : Fine (x .place) (ownList x) (postedList x) (x .accepting) (x .signal)
   pub own : listFits n p (x .count) (x .guards) ≡ true
-  pub posted : listFits n p (x .altcount) (x .altlist) ≡ true
+  pub on : OnAt (ownList x) (indexOf (x .place))
+  -- one that is not at I is a process of the table, with a ticket that was given out
+  pub there : isIdle (x .place) ≡ false → p < n
+  pub given : isIdle (x .place) ≡ false → x .transaction .0 < next
 
 -- a process that another has committed to, and that does not know it yet
 pub record Bound (y : Process) : Type 0 where
@@ -137,22 +152,16 @@ pub record Paired (p q : ℕ) (x y : Process) : Type 0 where
   -- a commit binds the partner on matching guards, and no two commit to one
   pub bound : (i j : ℕ) → Commits (x .place) i j → ownGuard x i .partner ≡ q → Bound y × (guardsMatch p (ownGuard x i) q (ownGuard y j) ≡ true)
   pub single : (i j k l : ℕ) → Commits (x .place) i j → Commits (y .place) k l → ownGuard x i .partner ≡ ownGuard y k .partner → ⊥
+  -- tickets differ
+  pub differ : isIdle (x .place) ≡ false → isIdle (y .place) ≡ false → x .transaction .0 ≡ y .transaction .0 → ⊥
 
-pub record Inv (n : ℕ) (v : View) : Type 0 where
-  pub alone : (p : ℕ) → Alone n p (v p)
+pub record Inv (n next : ℕ) (v : View) : Type 0 where
+  pub alone : (p : ℕ) → Alone n next p (v p)
   pub paired : (p q : ℕ) → (p ≡ q → ⊥) → Paired p q (v p) (v q)
-
--- tickets of processes not at I are below the next one, and all differ
-pub record Ticketed (next : ℕ) (v : View) : Type 0 where
-  pub below : (p : ℕ) → isIdle (v p .place) ≡ false → v p .transaction .0 < next
-  pub differ : (p q : ℕ) → (p ≡ q → ⊥) → isIdle (v p .place) ≡ false → isIdle (v q .place) ≡ false → v p .transaction .0 ≡ v q .transaction .0 → ⊥
 
 -- a table from which every list of calls goes well
 pub record Good (t : ProcessTable) : Type 0 where
   pub long : length (t .processes) ≡ mostProcesses
   pub least : 2 ≤ t .n
   pub most : t .n ≤ mostProcesses
-  pub inv : Inv (t .n) (process t)
-  pub ticketed : Ticketed (t .next .0) (process t)
-  -- records past the last process are at I
-  pub spare : (p : ℕ) → t .n ≤ p → isIdle (process t p .place) ≡ true
+  pub inv : Inv (t .n) (t .next .0) (process t)

@@ -1,14 +1,12 @@
 pub mod Claimed
 pub mod Commit
 pub mod Due
-pub mod Entry
+pub mod EveryCall
 pub mod Facts
-pub mod Following
+pub mod Followed
 pub mod GoodTable
 pub mod Invariant
-pub mod Joining
 pub mod Keeps
-pub mod Link
 pub mod Matches
 pub mod Once
 pub mod Places
@@ -16,5 +14,4 @@ pub mod Replies
 pub mod Rest
 pub mod Starred
 pub mod Tame
-pub mod Tickets
 pub mod View

@@ -3,30 +3,22 @@ use Prim.Native.Nat.{ℕ, zero, suc, _+_, _-_, _≤_, _<_}
 use mathlib.Core.Path.{_≡_, refl, sym, _∙_, ap, subst}
 use mathlib.Core.List.{List, [], _∷_}
 use mathlib.Core.Bool.{Bool, true, false, not, _&&_, cond, false≢true}
+use mathlib.Core.Option.{some}
 use native.Mathlib.Nat.{add-zero}
 use native.Mathlib.Omega.{arith}
-use lib.ListN.{getD, take, drop, length, List·getD-eq-default}
+use lib.ListN.{getD, getElem?, take, drop}
 use lib.Seq.{getD-drop}
-use lib.Dec.{eqb, ltb, leb}
-use borrow.Author.Tests.{eqb-true, eqb-false, ltb-true, ltb-false, not-true}
+use lib.Dec.{eqb, leb}
+use borrow.Author.Tests.{eqb-true, eqb-false, ltb-true, not-true}
 use Rattle.alternative.specs.declared.Action.{Action}
 use Rattle.alternative.specs.declared.Action.the-variants.{Receive, Send}
 use Rattle.alternative.specs.declared.Guard.{Guard}
 use Rattle.alternative.specs.declared.Found.{Found}
 use Rattle.alternative.specs.declared.Found.the-variants.{At, Missing}
-use Rattle.alternative.specs.Guards.{blank, opposite, guardsMatch, anyGuard, offersMatch, firstFrom, firstMatch, nextEnabled}
-use Rattle.alternative.specs.Guards.{mostGuards}
-use Rattle.rendezvous.specs.WellFormed.{allGuards, partnerFits, listFits}
-use Rattle.rendezvous.proofs.Forms.{and-parts}
+use Rattle.alternative.specs.Guards.{mostGuards, blank, opposite, guardsMatch, anyGuard, offersMatch, firstFrom, firstMatch, nextEnabled}
+use Rattle.process.specs.Fits.{allGuards, partnerFits, listFits}
+use Rattle.alternative.proofs.Tests.{and-parts}
 use Rattle.history.proofs.Invariant.{On}
-
--- the two cases of an order
-pub split : {A : Type 0} (m n : ℕ) → (m < n → A) → (n ≤ m → A) → A
-split {A} m n f g = go (ltb m n) refl
-  where
-    go : (b : Bool) → ltb m n ≡ b → A
-    go true e = f (ltb-true m n e)
-    go false e = g (ltb-false m n e)
 
 -- what a match says
 pub record Match (p : ℕ) (g : Guard) (q : ℕ) (h : Guard) : Type 0 where
@@ -52,8 +44,7 @@ opposite-comm (Send m) Receive = refl
 opposite-comm (Send m) (Send k) = refl
 
 and-swap : (a b c : Bool) → (a && (b && c)) ≡ (b && (a && c))
-and-swap true true c = refl
-and-swap true false c = refl
+and-swap true b c = refl
 and-swap false true c = refl
 and-swap false false c = refl
 
@@ -91,20 +82,16 @@ searched p g q hs = first-view (Searched p g q hs) (guardsMatch p g q) hs 0 (λ 
 
 -- the first enabled guard at or after index s
 pub next-view : (P : Found → Type 0) (gs : List Guard) (s : ℕ)
-    → ((i : ℕ) → On gs i → s ≤ i → ((k : ℕ) → s ≤ k → k < i → On gs k → ⊥) → P (At i))
+    → ((i : ℕ) → On gs i → ((k : ℕ) → s ≤ k → k < i → On gs k → ⊥) → P (At i))
     → (((k : ℕ) → s ≤ k → On gs k → ⊥) → P Missing)
     → P (nextEnabled gs s)
 unfolding nextEnabled
 next-view P gs s a b = first-view P (λ g. g .enabled) (drop s gs) s false≢true
-    (λ i o n. a (s + i) (rw getD-drop at o) (omega arith) (λ k h l c. n (k - s) (omega arith) (lower k h c)))
+    (λ i o n. a (s + i) (rw getD-drop at o) (λ k h l c. n (k - s) (omega arith) (lower k h c)))
     (λ n. b (λ k h c. n (k - s) (lower k h c)))
   where
     lower : (k : ℕ) → s ≤ k → On gs k → On (drop s gs) (k - s)
     lower k h a = rw getD-drop (subst (On gs) (omega arith) a)
-
--- an enabled guard stands in the list
-pub on-inside : (gs : List Guard) (k : ℕ) → On gs k → k < length gs
-on-inside gs k o = split k (length gs) (λ h. h) (λ h. absurd (false≢true (sym (ap (λ (g : Guard). g .enabled) (List·getD-eq-default gs blank h)) ∙ o)))
 
 -- offers match by two guards, if at all
 any-none : (test : Guard → Bool) (gs : List Guard) → ((k : ℕ) → test (getD gs k blank) ≡ false) → anyGuard test gs ≡ false
@@ -120,21 +107,26 @@ no-match p gs q hs h = any-none (λ g. anyGuard (guardsMatch p g q) hs) gs (λ k
     neither true n = absurd (n refl)
     neither false n = refl
 
--- a guard of a list that fits process p of n names another process below n
+-- an enabled guard stands in its list
+pub on-there : (gs : List Guard) (i : ℕ) → On gs i → getElem? gs i ≡ some (getD gs i blank)
+on-there [] i e = absurd (false≢true e)
+on-there (g ∷ gs) zero e = refl
+on-there (g ∷ gs) (suc i) e = on-there gs i e
+
+-- an enabled guard of a list that fits process p of n names another process below n
 pub record NamesOther (n p : ℕ) (g : Guard) : Type 0 where
-  pub other : g .partner ≡ p → ⊥
+  pub other : p ≡ g .partner → ⊥
   pub below : g .partner < n
 
-all-at : (test : Guard → Bool) (gs : List Guard) → allGuards test gs ≡ true → (k : ℕ) → k < length gs → test (getD gs k blank) ≡ true
+all-on : (test : Guard → Bool) (gs : List Guard) → allGuards test gs ≡ true → (k : ℕ) → On gs k → test (getD gs k blank) ≡ true
 unfolding allGuards
-all-at test [] e k h = absurd (omega arith)
-all-at test (g ∷ gs) e zero h = and-parts (test g) _ e .0
-all-at test (g ∷ gs) e (suc k) h = all-at test gs (and-parts (test g) _ e .1) k (omega arith)
+all-on test [] e k o = absurd (false≢true o)
+all-on test (g ∷ gs) e zero o = and-parts (test g) _ e .0
+all-on test (g ∷ gs) e (suc k) o = all-on test gs (and-parts (test g) _ e .1) k o
 
 pub fits-names : (n p count : ℕ) (guards : List Guard) → listFits n p count guards ≡ true → (k : ℕ) → On (take count guards) k → NamesOther n p (getD (take count guards) k blank)
 unfolding listFits partnerFits
 fits-names n p count guards e k o =
-    let a = and-parts (leb count mostGuards) _ e .1 in
-    let b = all-at (partnerFits n p) (take count guards) a k (on-inside (take count guards) k o) in
-    let c = and-parts (not (eqb (getD (take count guards) k blank .partner) p)) _ b in
-    record { other = eqb-false _ _ (not-true _ (c .0)); below = ltb-true _ _ (c .1) }
+    let a = all-on (partnerFits n p) (take count guards) (and-parts (leb count mostGuards) _ e .1) k o in
+    let b = and-parts (not (eqb (getD (take count guards) k blank .partner) p)) _ a in
+    record { other = λ z. eqb-false _ _ (not-true _ (b .0)) (sym z); below = ltb-true _ _ (b .1) }

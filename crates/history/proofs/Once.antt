@@ -5,11 +5,17 @@ use mathlib.Core.List.{List, [], _∷_, _++_}
 use mathlib.Core.Logic.{_⊎_, inl, inr, ⊎-elim}
 use mathlib.Core.Option.{Option, some, none}
 use native.Mathlib.Omega.{arith}
-use lib.ListN.{getElem?}
 use Rattle.alternative.specs.declared.Guard.{Guard}
-use Rattle.history.specs.Book.{Transaction, Rendezvous, History, enteredFor, meeting}
-use Rattle.history.specs.Demand3.{ticketsOf, NotIn, AllDiffer}
-use Rattle.history.proofs.Entry.{not-some, some-is, entered-each, Entry, nothing, offers, collects, meets}
+use Rattle.history.specs.Book.{Transaction, Rendezvous, enteredFor}
+use Rattle.history.specs.Demand3.{idsOf, NotIn, AllDiffer}
+use Rattle.history.proofs.View.{entered-each}
+
+-- what is there is not nothing, and is what it is
+pub not-some : {A B : Type 0} (a : A) → _≡_ {A = Option A} none (some a) → B
+not-some a e = let z : _≡_ {A = ℕ} 0 1 = cc in absurd (omega arith)
+
+pub some-is : {A : Type 0} (a c : A) → some a ≡ some c → a ≡ c
+some-is a c e = cc
 
 -- two tickets more at a list's end
 module _ (t u : ℕ) where
@@ -21,62 +27,53 @@ module _ (t u : ℕ) where
   differ-more [] ne d a b = ((ne, tt), (tt, tt))
   differ-more (s ∷ ts) ne d a b = (not-in-more s ts (d .0) (λ e. a .0 (sym e)) (λ e. b .0 (sym e)), differ-more ts ne (d .1) (a .1) (b .1))
 
-tickets-more : (rs : List Rendezvous) (r : Rendezvous) → ticketsOf (rs ++ (r ∷ [])) ≡ ticketsOf rs ++ (r .ticketP ∷ r .ticketQ ∷ [])
-tickets-more [] r = refl
-tickets-more (s ∷ rs) r = rw (tickets-more rs r)
+ids-more : (rs : List Rendezvous) (r : Rendezvous) → idsOf (rs ++ (r ∷ [])) ≡ idsOf rs ++ (r .idP ∷ r .idQ ∷ [])
+ids-more [] r = refl
+ids-more (s ∷ rs) r = rw (ids-more rs r)
 
 -- of a book's next ticket, open offers and rendezvous
 pub record Once (next : ℕ) (opened : ℕ → Option Transaction) (run : List Rendezvous) : Type 0 where
-  pub differ : AllDiffer (ticketsOf run)
-  pub unused : (t : ℕ) → next ≤ t → NotIn t (ticketsOf run)
-  pub below : (p : ℕ) (o : Transaction) → opened p ≡ some o → o .ticket < next
-  pub unmet : (p : ℕ) (o : Transaction) → opened p ≡ some o → NotIn (o .ticket) (ticketsOf run)
-  pub apart : (p q : ℕ) (o r : Transaction) → (p ≡ q → ⊥) → opened p ≡ some o → opened q ≡ some r → o .ticket ≡ r .ticket → ⊥
-
--- open offers name other processes only
-abbrev pub Outward : (ℕ → Option Transaction) → Type 0
-Outward opened = (p : ℕ) (o : Transaction) → opened p ≡ some o → (i : ℕ) (g : Guard) → getElem? (o .guards) i ≡ some g → p ≡ g .partner → ⊥
+  pub differ : AllDiffer (idsOf run)
+  pub unused : (t : ℕ) → next ≤ t → NotIn t (idsOf run)
+  pub below : (p : ℕ) (o : Transaction) → opened p ≡ some o → o .id < next
+  pub unmet : (p : ℕ) (o : Transaction) → opened p ≡ some o → NotIn (o .id) (idsOf run)
+  pub apart : (p q : ℕ) (o r : Transaction) → (p ≡ q → ⊥) → opened p ≡ some o → opened q ≡ some r → o .id ≡ r .id → ⊥
 
 -- what is open after p's offer closed was open, and is another's
 closed : (p : ℕ) (opened : ℕ → Option Transaction) (q : ℕ) (o : Transaction) → enteredFor p none opened q ≡ some o → (opened q ≡ some o) × (q ≡ p → ⊥)
-closed p opened q o = entered-each (λ q x. x ≡ some o → (opened q ≡ some o) × (q ≡ p → ⊥)) p none opened (not-some o) (λ q ne e. (e, ne)) q
+closed p opened q o = entered-each (λ q x. x ≡ some o → (opened q ≡ some o) × (q ≡ p → ⊥)) opened p none (not-some o) (λ q ne e. (e, ne)) q
 
-module _ (next : ℕ) (opened : ℕ → Option Transaction) (run : List Rendezvous) (k : Once next opened run) where
-  once-offers : (p : ℕ) (gs : List Guard) → Once (suc next) (enteredFor p (some (record { ticket = next; guards = gs })) opened) run
+module _ {next : ℕ} {opened : ℕ → Option Transaction} {run : List Rendezvous} (k : Once next opened run) where
+  pub once-offers : (p : ℕ) (gs : List Guard) → Once (suc next) (enteredFor p (some (record { id = next; guards = gs })) opened) run
   once-offers p gs = record {
     differ = k .differ;
     unused = λ t l. k .unused t (omega arith);
     below = λ q o e. ⊎-elim (λ n. omega (arith, n .1)) (λ h. omega (arith, k .below q o h)) (newer q o e);
-    unmet = λ q o e. ⊎-elim (λ n. k .unused (o .ticket) (omega (arith, n .1))) (λ h. k .unmet q o h) (newer q o e);
+    unmet = λ q o e. ⊎-elim (λ n. k .unused (o .id) (omega (arith, n .1))) (λ h. k .unmet q o h) (newer q o e);
     apart = λ q r o s ne e f z. ⊎-elim
         (λ n. ⊎-elim (λ m. ne (n .0 ∙ sym (m .0))) (λ h. omega (arith, n .1, k .below r s h)) (newer r s f))
         (λ h. ⊎-elim (λ m. omega (arith, m .1, k .below q o h)) (λ l. k .apart q r o s ne h l z) (newer r s f))
         (newer q o e);
   }
     where
-      newer : (q : ℕ) (o : Transaction) → enteredFor p (some (record { ticket = next; guards = gs })) opened q ≡ some o → ((q ≡ p) × (o .ticket ≡ next)) ⊎ (opened q ≡ some o)
-      newer q o = entered-each (λ q x. x ≡ some o → ((q ≡ p) × (o .ticket ≡ next)) ⊎ (opened q ≡ some o)) p _ opened
-          (λ e. inl (refl, ap (λ (t : Transaction). t .ticket) (sym (some-is _ o e)))) (λ q _ e. inr e) q
+      newer : (q : ℕ) (o : Transaction) → enteredFor p (some (record { id = next; guards = gs })) opened q ≡ some o → ((q ≡ p) × (o .id ≡ next)) ⊎ (opened q ≡ some o)
+      newer q o = entered-each (λ q x. x ≡ some o → ((q ≡ p) × (o .id ≡ next)) ⊎ (opened q ≡ some o)) opened p _
+          (λ e. inl (refl, ap (λ (t : Transaction). t .id) (sym (some-is _ o e)))) (λ q _ e. inr e) q
 
-  -- the offers o of p and r of q close, and their tickets have met
-  once-meets : (p q : ℕ) (o r : Transaction) (more : List Rendezvous) → (p ≡ q → ⊥) → opened p ≡ some o → opened q ≡ some r
-      → ticketsOf more ≡ ticketsOf run ++ (o .ticket ∷ r .ticket ∷ []) → Once next (enteredFor p none (enteredFor q none opened)) more
-  once-meets p q o r more ne e f z = record {
-    differ = rw z (differ-more (o .ticket) (r .ticket) (ticketsOf run) (k .apart p q o r ne e f) (k .differ) (k .unmet p o e) (k .unmet q r f));
-    unused = λ t l. rw z (not-in-more (o .ticket) (r .ticket) t (ticketsOf run) (k .unused t l) (λ h. omega (arith, k .below p o e)) (λ h. omega (arith, k .below q r f)));
-    below = λ s c h. k .below s c (still s c h .0);
-    unmet = λ s c h. let d = still s c h in
-        rw z (not-in-more (o .ticket) (r .ticket) (c .ticket) (ticketsOf run) (k .unmet s c (d .0)) (k .apart s p c o (d .1) (d .0) e) (k .apart s q c r (d .2) (d .0) f));
-    apart = λ s t c d l g h. k .apart s t c d l (still s c g .0) (still t d h .0);
+  -- the offers o of p and s of q close, and their tickets have met in r
+  pub once-commits : (p q : ℕ) (o s : Transaction) (r : Rendezvous) → (p ≡ q → ⊥) → opened p ≡ some o → opened q ≡ some s → r .idP ≡ o .id → r .idQ ≡ s .id
+      → Once next (enteredFor p none (enteredFor q none opened)) (run ++ (r ∷ []))
+  once-commits p q o s r ne e f a b = record {
+    differ = rw z (differ-more (o .id) (s .id) (idsOf run) (k .apart p q o s ne e f) (k .differ) (k .unmet p o e) (k .unmet q s f));
+    unused = λ t l. rw z (not-in-more (o .id) (s .id) t (idsOf run) (k .unused t l) (λ h. omega (arith, k .below p o e)) (λ h. omega (arith, k .below q s f)));
+    below = λ u c h. k .below u c (still u c h .0);
+    unmet = λ u c h. let d = still u c h in
+        rw z (not-in-more (o .id) (s .id) (c .id) (idsOf run) (k .unmet u c (d .0)) (k .apart u p c o (d .1) (d .0) e) (k .apart u q c s (d .2) (d .0) f));
+    apart = λ u w c d l g h. k .apart u w c d l (still u c g .0) (still w d h .0);
   }
     where
-      still : (s : ℕ) (c : Transaction) → enteredFor p none (enteredFor q none opened) s ≡ some c → (opened s ≡ some c) × (s ≡ p → ⊥) × (s ≡ q → ⊥)
-      still s c g = let a = closed p (enteredFor q none opened) s c g in let d = closed q opened s c (a .0) in (d .0, a .1, d .1)
+      z : idsOf (run ++ (r ∷ [])) ≡ idsOf run ++ (o .id ∷ s .id ∷ [])
+      z = ids-more run r ∙ rw (a, b)
 
-pub once-entry : (b next : History) → Once (b .next) (b .opened) (b .run) → Outward (b .opened) → Entry b next → Once (next .next) (next .opened) (next .run)
-unfolding meeting
-once-entry b _ k w nothing = k
-once-entry b _ k w (offers p gs) = once-offers (b .next) (b .opened) (b .run) k p gs
-once-entry b _ k w (collects p) = k
-once-entry b _ k w (meets c) = once-meets (b .next) (b .opened) (b .run) k (c .p) (c .g .partner) (c .mine) (c .theirs) _
-    (w (c .p) (c .mine) (c .mine-open) (c .i) (c .g) (c .mine-guard)) (c .mine-open) (c .theirs-open) (tickets-more (b .run) _)
+      still : (u : ℕ) (c : Transaction) → enteredFor p none (enteredFor q none opened) u ≡ some c → (opened u ≡ some c) × (u ≡ p → ⊥) × (u ≡ q → ⊥)
+      still u c g = let a = closed p (enteredFor q none opened) u c g in let d = closed q opened u c (a .0) in (d .0, a .1, d .1)

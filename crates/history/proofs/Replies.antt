@@ -1,34 +1,49 @@
--- The view of a good table after new records are put into it, and the own list of a process that offers.
-use Prim.Native.Nat.{ℕ, _≤_, _<_}
-use mathlib.Core.Path.{_≡_, _∙_, ap}
-use mathlib.Core.List.{List, _++_}
-use native.Mathlib.Omega.{arith}
-use lib.ListN.{length, take, replicate, length-set}
-use lib.Seq.{take-take, take-append-seam}
+-- What each call replies: it is refused and hands back its table, or it does what follows.
+use Prim.Native.Nat.{ℕ, _<_}
+use mathlib.Core.Path.{_≡_, refl}
+use mathlib.Core.List.{List}
+use Rattle.alternative.specs.declared.Message.{Message}
 use Rattle.alternative.specs.declared.Guard.{Guard}
-use Rattle.alternative.specs.Guards.{blank, slots, lent}
-use Rattle.rendezvous.specs.declared.TransactionId.{TransactionId}
-use Rattle.rendezvous.specs.declared.Process.{Process}
+use Rattle.alternative.specs.Guards.{lent}
+use Rattle.process.specs.declared.Place.{Place}
+use Rattle.process.specs.declared.Place.the-variants.{Idle, Entering, Scanning, Trying, Committed, Posting, Opening, Showing, Asleep, Waiting, Met}
 use Rattle.rendezvous.specs.declared.ProcessTable.{ProcessTable}
-use Rattle.rendezvous.specs.Table.{mostGuards, ownList, process, put}
-use Rattle.rendezvous.specs.Calls.{entering}
-use Rattle.history.proofs.View.{View, upd, put-view}
-use Rattle.history.proofs.Invariant.{Good}
+use Rattle.rendezvous.specs.declared.Refusal.{Refusal}
+use Rattle.rendezvous.specs.declared.Refusal.the-variants.{NotMet}
+use Rattle.rendezvous.specs.declared.Verdict.{Verdict}
+use Rattle.rendezvous.specs.declared.Verdict.the-variants.{Accepted, Refused}
+use Rattle.rendezvous.specs.declared.Reply.{Reply}
+use Rattle.rendezvous.specs.Table.{process}
+use Rattle.rendezvous.specs.Refusals.{processVerdict, offerVerdict}
+use Rattle.rendezvous.specs.Calls.{refused, ifAccepted, offered, offerList, offer, stepped, step, collected, collect}
+use Rattle.rendezvous.proofs.Verdicts.{process-passed, Admitted, offer-passed}
 
-module _ (t : ProcessTable) (good : Good t) (p : ℕ) (x : Process) (below : p < t .n) where
-  pub put-one : process (put t p x) ≡ upd (process t) p x
-  put-one = put-view t p x (omega (arith, good .long, good .most))
+module _ (P : Reply → Type 0) (t : ProcessTable) (turned-away : (r : Refusal) → P (refused r t)) (p : ℕ) where
+  verdict-elim : (verdict : Verdict) (reply : Reply) → (verdict ≡ Accepted → P reply) → P (ifAccepted verdict t reply)
+  verdict-elim Accepted reply h = h refl
+  verdict-elim (Refused r) reply h = turned-away r
 
-  pub put-two : (q : ℕ) (y : Process) → q < t .n → process (put (put t q y) p x) ≡ upd (upd (process t) q y) p x
-  put-two q y other =
-      put-view (put t q y) p x (omega (arith, good .long, good .most, length-set (t .processes) q y))
-      ∙ ap (λ (v : View). upd v p x) (put-view t q y (omega (arith, good .long, good .most)))
+  pub offer-elim : (gs : List Guard) → (Admitted t p (lent gs) → P (offered t p (lent gs))) → P (offer t p gs)
+  unfolding offerList
+  offer-elim gs h = verdict-elim (offerVerdict t p (lent gs)) _ (λ e. h (offer-passed t p (lent gs) e))
 
--- a list of at most eight guards comes back from its slots, and so it is the own list after the offer
-slots-back : (gs : List Guard) → length gs ≤ mostGuards → take (length gs) (slots gs) ≡ gs
-unfolding slots
-slots-back gs h = take-take (length gs) mostGuards (gs ++ replicate 8 blank) h ∙ take-append-seam gs (replicate 8 blank)
+  pub step-elim : (p < t .n → P (stepped t p)) → P (step t p)
+  unfolding step
+  step-elim h = verdict-elim (processVerdict t p) _ (λ e. h (process-passed t p e .below))
 
-pub entering-list : (x : Process) (ticket : TransactionId) (gs : List Guard) → length gs ≤ mostGuards → ownList (entering x ticket (lent gs)) ≡ gs
-unfolding entering lent
-entering-list x ticket gs h = rw (slots-back gs h, slots-back gs h)
+  pub collect-elim : (p < t .n → (i : ℕ) (m : Message) → process t p .place ≡ Met i m → P (collected t p (process t p) (Met i m))) → P (collect t p)
+  unfolding collect
+  collect-elim h = verdict-elim (processVerdict t p) _ (λ e. at (process t p .place) (h (process-passed t p e .below)))
+    where
+      at : (pl : Place) → ((i : ℕ) (m : Message) → pl ≡ Met i m → P (collected t p (process t p) (Met i m))) → P (collected t p (process t p) pl)
+      at Idle k = turned-away NotMet
+      at Entering k = turned-away NotMet
+      at (Scanning i) k = turned-away NotMet
+      at (Trying i) k = turned-away NotMet
+      at (Committed i j) k = turned-away NotMet
+      at Posting k = turned-away NotMet
+      at Opening k = turned-away NotMet
+      at Showing k = turned-away NotMet
+      at Asleep k = turned-away NotMet
+      at Waiting k = turned-away NotMet
+      at (Met i m) k = k i m refl

@@ -6,25 +6,27 @@ use mathlib.Core.Option.{some, none}
 use native.Mathlib.Omega.{arith}
 use lib.Dec.{ltb}
 use lib.Pow.{pow-pos}
-use borrow.Author.Tests.{ltb-false}
+use borrow.Author.Tests.{ltb-true, ltb-false}
 use Rattle.alternative.specs.declared.Found.{Found}
 use Rattle.alternative.specs.declared.Found.the-variants.{At, Missing}
 use Rattle.alternative.specs.Guards.{firstMatch, offersMatch}
-use Rattle.rendezvous.specs.declared.Place.{Place}
-use Rattle.rendezvous.specs.declared.Place.the-variants.{Idle, Entering, Scanning, Trying, Committed, Posting, Opening, Showing, Asleep, Waiting, Met}
-use Rattle.rendezvous.specs.declared.State.{State}
-use Rattle.rendezvous.specs.declared.State.the-variants.{Running, Alt, Sleeping}
-use Rattle.rendezvous.specs.declared.Process.{Process}
+use Rattle.process.specs.declared.Place.{Place}
+use Rattle.process.specs.declared.Place.the-variants.{Idle, Entering, Scanning, Trying, Committed, Posting, Opening, Showing, Asleep, Waiting, Met}
+use Rattle.process.specs.declared.State.{State}
+use Rattle.process.specs.declared.State.the-variants.{Running, Alt, Sleeping}
+use Rattle.process.specs.declared.Process.{Process}
 use Rattle.rendezvous.specs.declared.ProcessTable.{ProcessTable}
-use Rattle.rendezvous.specs.Table.{stateOf, ownList, postedList, ownGuard, process, openAt, isOpen}
-use Rattle.rendezvous.specs.Rules.{scanFrom, scan, try, meet, ruleAt, rule, partnerAt, partnerOf}
-use Rattle.rendezvous.specs.Calls.{effectOn, changes, setBelow, runnableSet, Quiescent}
+use Rattle.process.specs.Process.{stateOf, indexOf, ownList, postedList, ownGuard, openAt, isOpen}
+use Rattle.rendezvous.specs.Table.{process, hasOpenOffer}
+use Rattle.process.specs.Rules.{scanFrom, scan, try, handOver, ruleAt, rule, namedBy, changes}
+use Rattle.rendezvous.specs.Calls.{effectOn, setBelow, runnableSet, Quiescent}
+use Rattle.alternative.proofs.Tests.{and-parts}
 use Rattle.history.specs.Book.{Transaction}
 use Rattle.history.specs.Demand3.{openOffer}
+use Rattle.history.proofs.View.{split}
 use Rattle.history.proofs.Invariant.{Past, Good}
-use Rattle.history.proofs.Matches.{split, no-match}
-use Rattle.history.proofs.Places.{idle-is}
-use Rattle.history.proofs.Keeps.{at-names}
+use Rattle.history.proofs.Matches.{no-match}
+use Rattle.history.proofs.Facts.{at-names}
 
 -- a set is empty: no number is in it
 none-below : (member : ℕ → Bool) (n : ℕ) → setBelow member n ≡ 0 → (p : ℕ) → p < n → member p ≡ false
@@ -36,31 +38,18 @@ none-below member (suc n) e p h = split p n (none-below member n (omega arith) p
     out true f = absurd (omega (arith, pow-pos n))
     out false f = refl
 
--- what the place of a process that does not move says of its record x and its partner's y
+-- a process at A that does not move: its partner has the word ALT and no smaller ticket
 record Stopped (x y : Process) : Type 0 where
   busy : stateOf (y .place) ≡ Alt
   younger : x .transaction .0 ≤ y .transaction .0
 
-abbrev Rests : Process → Process → Place → Type 0
-Rests x y Idle = Unit {0}
-Rests x y Entering = ⊥
-Rests x y (Scanning i) = Stopped x y
-Rests x y (Trying i) = ⊥
-Rests x y (Committed i j) = ⊥
-Rests x y Posting = ⊥
-Rests x y Opening = ⊥
-Rests x y Showing = ⊥
-Rests x y Asleep = ⊥
-Rests x y Waiting = Unit {0}
-Rests x y (Met i m) = Unit {0}
-
-rests-scan : (x y : Process) (i : ℕ) (s : State) → stateOf (y .place) ≡ s → (older : Bool) → ltb (y .transaction .0) (x .transaction .0) ≡ older → changes (scan x i s older) ≡ false → Stopped x y
+scan-stopped : (x y : Process) (i : ℕ) (s : State) → stateOf (y .place) ≡ s → (older : Bool) → ltb (y .transaction .0) (x .transaction .0) ≡ older → changes (scan x i s older) ≡ false → Stopped x y
 unfolding scanFrom
-rests-scan x y i Running e older f c = absurd (true≢false c)
-rests-scan x y i Sleeping e older f c = absurd (true≢false c)
-rests-scan x y i State.Waiting e older f c = absurd (true≢false c)
-rests-scan x y i Alt e true f c = absurd (true≢false c)
-rests-scan x y i Alt e false f c = record { busy = e; younger = ltb-false _ _ f }
+scan-stopped x y i Running e older f c = absurd (true≢false c)
+scan-stopped x y i Sleeping e older f c = absurd (true≢false c)
+scan-stopped x y i State.Waiting e older f c = absurd (true≢false c)
+scan-stopped x y i Alt e true f c = absurd (true≢false c)
+scan-stopped x y i Alt e false f c = record { busy = e; younger = ltb-false _ _ f }
 
 try-changes : (x : Process) (i : ℕ) (y : Process) (accepting : Bool) (found : Found) → changes (try x i y accepting found) ≡ true
 unfolding scanFrom
@@ -69,79 +58,69 @@ try-changes x i y true Missing = refl
 try-changes x i y false (At j) = refl
 try-changes x i y false Missing = refl
 
-rests-at : (p : ℕ) (x : Process) (q : ℕ) (y : Process) (pl : Place) → changes (ruleAt p x q y pl) ≡ false → Rests x y pl
-unfolding scanFrom meet
-rests-at p x q y Idle c = tt
-rests-at p x q y Entering c = true≢false c
-rests-at p x q y (Scanning i) c = rests-scan x y i (stateOf (y .place)) refl (ltb (y .transaction .0) (x .transaction .0)) refl c
-rests-at p x q y (Trying i) c = true≢false (sym (try-changes x i y (y .accepting) (firstMatch p (ownGuard x i) q (postedList y))) ∙ c)
-rests-at p x q y (Committed i j) c = true≢false c
-rests-at p x q y Posting c = true≢false c
-rests-at p x q y Opening c = true≢false c
-rests-at p x q y Showing c = true≢false c
-rests-at p x q y Asleep c = true≢false c
-rests-at p x q y Waiting c = tt
-rests-at p x q y (Met i m) c = tt
+-- what a process p that does not move says of its place
+module _ (p : ℕ) (x : Process) (q : ℕ) (y : Process) where
+  -- one with the word ALT is at A
+  scans : (pl : Place) → stateOf pl ≡ Alt → changes (ruleAt p x q y pl) ≡ false → (i : ℕ) × (pl ≡ Scanning i)
+  unfolding handOver
+  scans (Scanning i) w c = (i, refl)
+  scans (Trying i) w c = absurd (true≢false (sym (try-changes x i y (y .accepting) (firstMatch p (ownGuard x i) q (postedList y))) ∙ c))
+  scans (Committed i j) w c = absurd (true≢false c)
+  scans Posting w c = absurd (true≢false c)
+  scans Opening w c = absurd (true≢false c)
+  scans Showing w c = absurd (true≢false c)
+  scans Idle w c = let z : _≡_ {A = ℕ} 0 1 = cc in absurd (omega arith)
+  scans Entering w c = let z : _≡_ {A = ℕ} 0 1 = cc in absurd (omega arith)
+  scans Asleep w c = let z : _≡_ {A = ℕ} 0 1 = cc in absurd (omega arith)
+  scans Waiting w c = let z : _≡_ {A = ℕ} 0 1 = cc in absurd (omega arith)
+  scans (Met i m) w c = let z : _≡_ {A = ℕ} 0 1 = cc in absurd (omega arith)
 
--- a process that does not move and has the word ALT is at A
-scans : (x y : Process) (pl : Place) → stateOf pl ≡ Alt → Rests x y pl → (i : ℕ) × (pl ≡ Scanning i)
-scans x y Idle w r = let z : _≡_ {A = ℕ} 0 1 = cc in absurd (omega arith)
-scans x y Entering w r = absurd r
-scans x y (Scanning i) w r = (i, refl)
-scans x y (Trying i) w r = absurd r
-scans x y (Committed i j) w r = absurd r
-scans x y Posting w r = absurd r
-scans x y Opening w r = absurd r
-scans x y Showing w r = absurd r
-scans x y Asleep w r = absurd r
-scans x y Waiting w r = let z : _≡_ {A = ℕ} 0 1 = cc in absurd (omega arith)
-scans x y (Met i m) w r = let z : _≡_ {A = ℕ} 0 1 = cc in absurd (omega arith)
+  -- one with an open offer is at A, or past all its guards
+  rests-past : (pl : Place) → changes (ruleAt p x q y pl) ≡ false → openAt pl (x .accepting) ≡ true → ((i : ℕ) → pl ≡ Scanning i → ⊥) → (k : ℕ) → Past pl (x .accepting) k
+  unfolding scanFrom
+  rests-past (Scanning i) c o n k = absurd (n i refl)
+  rests-past (Trying i) c o n k = absurd (true≢false (sym (try-changes x i y (y .accepting) (firstMatch p (ownGuard x i) q (postedList y))) ∙ c))
+  rests-past Entering c o n k = true≢false c
+  rests-past Asleep c o n k = true≢false c
+  rests-past Posting c o n k = tt
+  rests-past Opening c o n k = tt
+  rests-past Showing c o n k = o
+  rests-past Waiting c o n k = o
+  rests-past Idle c o n k = false≢true o
+  rests-past (Committed i j) c o n k = false≢true o
+  rests-past (Met i m) c o n k = false≢true o
 
 module _ (t : ProcessTable) (good : Good t) (quiescent : Quiescent t) where
-  rests : (p : ℕ) → p < t .n → Rests (process t p) (process t (partnerOf (process t p))) (process t p .place)
+  still : (p : ℕ) → p < t .n → (pl : Place) → process t p .place ≡ pl → let q = namedBy (process t p) (indexOf pl) in changes (ruleAt p (process t p) q (process t q) pl) ≡ false
   unfolding runnableSet effectOn rule
-  rests p h = rests-at p (process t p) _ _ (process t p .place) (none-below (λ p. changes (effectOn t p)) (t .n) quiescent p h)
+  still p h pl e = subst (λ (l : Place). let q = namedBy (process t p) (indexOf l) in changes (ruleAt p (process t p) q (process t q) l) ≡ false) e
+      (none-below (λ p. changes (effectOn t p)) (t .n) quiescent p h)
 
   -- No process is at A: its partner would be at A too, with a greater ticket, and so on.
   none-scans : (fuel p i : ℕ) → p < t .n → process t p .place ≡ Scanning i → t .next .0 ≤ process t p .transaction .0 + fuel → ⊥
-  none-scans zero p i h e l = let b = good .ticketed .below p (rw e refl) in omega arith
+  none-scans zero p i h e l = let b = good .inv .alone p .given (rw e refl) in omega arith
   none-scans (suc fuel) p i h e l =
       let x = process t p in
-      let s = subst (λ (pl : Place). Rests x (process t (partnerAt x pl)) pl) e (rests p h) in
       let q = at-names (process t) (good .inv) p i (rw e refl) in
       let y = process t (ownGuard x i .partner) in
-      let a = scans y _ (y .place) (s .busy) (rests _ (q .below)) in
-      let d = good .ticketed .differ p _ (λ z. q .other (sym z)) (rw e refl) (rw (a .1) refl) in
+      let s = scan-stopped x y i _ refl _ refl (still p h _ e) in
+      let a = scans _ y _ _ (y .place) (s .busy) (still _ (q .below) _ refl) in
+      let d = good .inv .paired p _ (q .other) .differ (rw e refl) (rw (a .1) refl) in
       none-scans fuel _ (a .0) (q .below) (a .1) (grows (x .transaction .0) (y .transaction .0) fuel (t .next .0) (s .younger) d l)
     where
       grows : (a b k n : ℕ) → a ≤ b → (a ≡ b → ⊥) → n ≤ a + suc k → n ≤ b + k
       grows a b k n c d e = omega arith
 
   -- so a process with an open offer is past all its guards
-  past-at : (p : ℕ) → p < t .n → (pl : Place) → process t p .place ≡ pl → Rests (process t p) (process t (partnerOf (process t p))) pl → openAt pl (process t p .accepting) ≡ true
-      → (k : ℕ) → Past pl (process t p .accepting) k
-  past-at p h Idle e r o k = false≢true o
-  past-at p h Entering e r o k = r
-  past-at p h (Scanning i) e r o k = absurd (none-scans (t .next .0) p i h e (omega arith))
-  past-at p h (Trying i) e r o k = absurd r
-  past-at p h (Committed i j) e r o k = r
-  past-at p h Posting e r o k = tt
-  past-at p h Opening e r o k = tt
-  past-at p h Showing e r o k = o
-  past-at p h Asleep e r o k = r
-  past-at p h Waiting e r o k = o
-  past-at p h (Met i m) e r o k = false≢true o
-
   open-past : (p : ℕ) (o : Transaction) → openOffer t p ≡ some o → ((k : ℕ) → Past (process t p .place) (process t p .accepting) k) × (ownList (process t p) ≡ o .guards)
-  open-past p o e = at (isOpen (process t p)) refl e
+  open-past p o e = at (hasOpenOffer t p) refl e
     where
-      -- a record past the last process is at I, where no offer is open
-      below : isOpen (process t p) ≡ true → p < t .n
-      below f = split p (t .n) (λ h. h) (λ h. absurd (false≢true (subst (λ (pl : Place). openAt pl (process t p .accepting) ≡ true) (idle-is (process t p .place) (good .spare p h)) f)))
-
-      at : (b : Bool) → isOpen (process t p) ≡ b → cond b (some (record { ticket = process t p .transaction .0; guards = ownList (process t p) })) none ≡ some o
+      at : (b : Bool) → hasOpenOffer t p ≡ b → cond b (some (record { id = process t p .transaction .0; guards = ownList (process t p) })) none ≡ some o
           → ((k : ℕ) → Past (process t p .place) (process t p .accepting) k) × (ownList (process t p) ≡ o .guards)
-      at true f e = (past-at p (below f) (process t p .place) refl (rests p (below f)) f, cc)
+      at true f e =
+          let a = and-parts (ltb p (t .n)) (isOpen (process t p)) f in
+          let h = ltb-true p (t .n) (a .0) in
+          (rests-past p _ _ _ (process t p .place) (still p h _ refl) (a .1) (λ i s. none-scans (t .next .0) p i h s (omega arith)), cc)
       at false f e = let z : _≡_ {A = ℕ} 0 1 = cc in absurd (omega arith)
 
   pub at-rest : (p q : ℕ) (o r : Transaction) → (p ≡ q → ⊥) → openOffer t p ≡ some o → openOffer t q ≡ some r → offersMatch p (o .guards) q (r .guards) ≡ false

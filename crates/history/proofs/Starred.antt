@@ -2,8 +2,9 @@
 use mathlib.Core.Path.{refl}
 use lib.Ieee.{ofBits}
 use Rattle.alternative.specs.Guards.{guardsMatch, anyGuard, firstFrom, firstMatch, nextEnabled, slots, lent}
-use Rattle.rendezvous.specs.Rules.{scanFrom, handOver, rule}
-use Rattle.rendezvous.specs.WellFormed.{allGuards, allBelow, countFits, partnerFits, listFits, processFits, fitsAt, wellFormed}
+use Rattle.process.specs.Rules.{scanFrom, handOver, rule}
+use Rattle.process.specs.Fits.{allGuards, partnerFits, listFits, processFits}
+use Rattle.rendezvous.specs.WellFormed.{allBelow, countFits, fitsAt, wellFormed}
 use Rattle.rendezvous.specs.Refusals.{requireGuards, createVerdict, tableVerdict, processVerdict, listVerdict, stateVerdict, offerVerdict}
 use Rattle.rendezvous.specs.Calls.{create, entering, offered, offerList, effectOn, stepped, step, collect, setBelow, runnableSet, runnable}
 use Rattle.history.specs.Run.{replyTo}

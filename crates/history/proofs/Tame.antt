@@ -1,16 +1,17 @@
 -- A move of one process that keeps what holds of each process and of each two: what its new record has to give.
 use Prim.Native.Nat.{ℕ}
 use mathlib.Core.Path.{_≡_, refl, sym, _∙_}
-use mathlib.Core.Bool.{Bool, true}
+use mathlib.Core.Bool.{Bool, true, false}
 use mathlib.Core.Logic.{_⊎_, inl, inr}
 use Rattle.alternative.specs.Guards.{guardsMatch}
-use Rattle.rendezvous.specs.declared.Signal.{Signal}
-use Rattle.rendezvous.specs.declared.Place.{Place}
-use Rattle.rendezvous.specs.declared.Process.{Process}
-use Rattle.rendezvous.specs.Table.{ownList, postedList, ownGuard}
-use Rattle.rendezvous.specs.Rules.{atPlace, withSignal, withAccepting}
-use Rattle.history.proofs.View.{View, upd, upd-each, upd-pair}
-use Rattle.history.proofs.Invariant.{Past, Tries, Commits, Waits, Shows, Fine, Alone, Bound, Paired, Inv}
+use Rattle.process.specs.declared.Signal.{Signal}
+use Rattle.process.specs.declared.Place.{Place}
+use Rattle.process.specs.declared.Process.{Process}
+use Rattle.process.specs.Process.{indexOf, ownList, postedList, ownGuard, isIdle}
+use Rattle.process.specs.Rules.{changed}
+use Rattle.process.specs.Fits.{listFits}
+use Rattle.history.proofs.View.{View, upd, entered-each, upd-pair}
+use Rattle.history.proofs.Invariant.{Past, Tries, Commits, Waits, Shows, OnAt, Fine, Alone, Bound, Paired, Inv}
 use Rattle.history.proofs.Matches.{match-comm}
 use Rattle.history.proofs.Places.{waits-elim}
 
@@ -34,32 +35,30 @@ pub record Committing (v : View) (p i j : ℕ) : Type 0 where
   pub only : (r k l : ℕ) → (r ≡ p → ⊥) → Commits (v r .place) k l → ownGuard (v p) i .partner ≡ ownGuard (v r) k .partner → ⊥
 
 -- The new record x of p, which was at pl: it passes no guard that a near one of another process matches, tries one only of a process that waits, leaves W only by giving up
--- its past guards, commits rightly, and stays bound to a process that has committed to it.
+-- its past guards, commits rightly, stays bound to a process that has committed to it, and leaves I only by an offer.
 pub record Tame (v : View) (p : ℕ) (pl : Place) (x : Process) : Type 0 where
   pub passes : (k r l : ℕ) → (r ≡ p → ⊥) → guardsMatch p (ownGuard (v p) k) r (ownGuard (v r) l) ≡ true → Near (v r) l → Past (x .place) (x .accepting) k → Past pl (v p .accepting) k
   pub tries : (k r l : ℕ) → (r ≡ p → ⊥) → guardsMatch p (ownGuard (v p) k) r (ownGuard (v r) l) ≡ true → Tries (x .place) k → Tries pl k ⊎ Waits (v r .place)
   pub waits : (k : ℕ) → Past (x .place) (x .accepting) k → Waits pl → Waits (x .place)
   pub commits : (i j : ℕ) → Commits (x .place) i j → Commits pl i j ⊎ Committing v p i j
   pub bound : Held v p → Bound x
+  pub busy : isIdle (x .place) ≡ false → isIdle pl ≡ false
 
-pub put-inv : {n : ℕ} (v : View) (p : ℕ) (x : Process) → Inv n v → Alone n p x
-    → ((r : ℕ) → (r ≡ p → ⊥) → Paired p r x (v r)) → ((r : ℕ) → (r ≡ p → ⊥) → Paired r p (v r) x) → Inv n (upd v p x)
-put-inv {n} v p x inv s a b = record { alone = upd-each (Alone n) v p x s (λ q _. inv .alone q); paired = upd-pair Paired v p x (inv .paired) a b }
+pub put-inv : {n next : ℕ} (v : View) (p : ℕ) (x : Process) → Inv n next v → Alone n next p x
+    → ((r : ℕ) → (r ≡ p → ⊥) → Paired p r x (v r)) → ((r : ℕ) → (r ≡ p → ⊥) → Paired r p (v r) x) → Inv n next (upd v p x)
+put-inv {n} {next} v p x inv s a b = record { alone = entered-each (Alone n next) v p x s (λ q _. inv .alone q); paired = upd-pair Paired v p x (inv .paired) a b }
 
-module _ {n : ℕ} (v : View) (inv : Inv n v) (p : ℕ) where
+module _ {n next : ℕ} (v : View) (inv : Inv n next v) (p : ℕ) where
   pub held : Held v p → Bound (v p)
   held h = inv .paired (h .by) p (h .other) .bound (h .at) (h .kept) (h .there) (h .names) .0
 
   module _ (pl : Place) (e : v p .place ≡ pl) where
-    pub fine : Fine pl (ownList (v p)) (postedList (v p)) (v p .accepting) (v p .signal)
-    fine = rw e at (inv .alone p .fine)
-
     -- no process has committed to one that is not at H or W
     pub free : (x : Process) → (Shows pl → ⊥) → Held v p → Bound x
     free x hides h = absurd (hides (rw e at (held h .shows)))
 
     -- the new record and another process, in either order
-    module _ (x : Process) (same : ownList x ≡ ownList (v p)) (t : Tame v p pl x) where
+    module _ (x : Process) (same : ownList x ≡ ownList (v p)) (id : x .transaction ≡ v p .transaction) (t : Tame v p pl x) where
       tame-out : (r : ℕ) → (r ≡ p → ⊥) → Paired p r x (v r)
       tame-out r ne =
           record {
@@ -68,6 +67,7 @@ module _ {n : ℕ} (v : View) (inv : Inv n v) (p : ℕ) where
             never = λ k l f g h. never k l (rw same at f) h (t .tries k r l ne (rw same at f) g);
             bound = λ i j c m. rw same (bound i j (rw same at m) (t .commits i j c));
             single = λ i j k l c d m. single i j k l d (rw same at m) (t .commits i j c);
+            differ = λ b c z. o .differ (rw e (t .busy b)) c (rw id at z);
           }
         where
           o : Paired p r (v p) (v r)
@@ -99,12 +99,19 @@ module _ {n : ℕ} (v : View) (inv : Inv n v) (p : ℕ) where
             never = λ k l f g h. w .never l k (match-comm _ _ _ _ ∙ f) h g;
             bound = λ i j c m. (t .bound (record { by = r; at = i; kept = j; other = ne; there = c; names = m }), rw same (o .bound i j c m .1));
             single = λ i j k l c d m. w .single k l i j d c (sym m);
+            differ = λ b c z. w .differ c b (sym z);
           }
 
-      pub tame : Alone n p x → Inv n (upd v p x)
-      tame a = put-inv v p x inv a tame-out tame-in
+      pub tame : Fine (x .place) (ownList x) (postedList x) (x .accepting) (x .signal) → listFits n p (x .count) (x .guards) ≡ true → OnAt (ownList x) (indexOf (x .place)) → Inv n next (upd v p x)
+      tame f own on = put-inv v p x inv (record {
+        fine = f;
+        own = own;
+        on = on;
+        there = λ b. inv .alone p .there (rw e (t .busy b));
+        given = λ b. rw id (inv .alone p .given (rw e (t .busy b)));
+      }) tame-out tame-in
 
     -- a move that leaves the lists alone
-    pub moves : (place : Place) (signal : Signal) (accepting : Bool) → let x = atPlace (withSignal (withAccepting (v p) accepting) signal) place in
-        Fine place (ownList (v p)) (postedList (v p)) accepting signal → Tame v p pl x → Inv n (upd v p x)
-    moves place signal accepting f t = tame _ refl t (record { fine = f; own = inv .alone p .own; posted = inv .alone p .posted })
+    pub moves : (place : Place) (signal : Signal) (accepting : Bool) → let x = changed (v p) place signal accepting in
+        Fine place (ownList (v p)) (postedList (v p)) accepting signal → OnAt (ownList (v p)) (indexOf place) → Tame v p pl x → Inv n next (upd v p x)
+    moves place signal accepting f on t = tame _ refl refl t f (inv .alone p .own) on

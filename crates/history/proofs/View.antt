@@ -1,21 +1,31 @@
--- The records of a table as a function of the process number, and what an update of one of them leaves.
-use Prim.Native.Nat.{ℕ, _<_}
+-- The records of a table as a function of the process number, and what a new entry for one number leaves of such a function.
+use Prim.Native.Nat.{ℕ, _≤_, _<_}
 use mathlib.Core.Path.{_≡_, refl, sym, _∙_, fun-ext}
 use mathlib.Core.Bool.{Bool, true, false, cond}
 use lib.ListN.{length}
 use lib.Seq.{getD-set-same, getD-set-other}
-use lib.Dec.{eqb}
-use borrow.Author.Tests.{eqb-true, eqb-false, eq-eqb, ne-eqb}
-use Rattle.rendezvous.specs.declared.Process.{Process}
+use lib.Dec.{eqb, ltb}
+use borrow.Author.Tests.{eqb-true, eqb-false, eq-eqb, ne-eqb, ltb-true, ltb-false}
+use Rattle.process.specs.declared.Process.{Process}
 use Rattle.rendezvous.specs.declared.ProcessTable.{ProcessTable}
-use Rattle.rendezvous.specs.Table.{nobody, process, put}
-use Rattle.rendezvous.specs.Rules.{Effect, Neither, Own, Both}
+use Rattle.process.specs.Process.{nobody}
+use Rattle.rendezvous.specs.Table.{process, put}
+use Rattle.process.specs.Rules.{Effect, Neither, Own, Both}
+use Rattle.history.specs.Book.{enteredFor}
+
+-- the two cases of an order
+pub split : {A : Type 0} (m n : ℕ) → (m < n → A) → (n ≤ m → A) → A
+split {A} m n f g = go (ltb m n) refl
+  where
+    go : (b : Bool) → ltb m n ≡ b → A
+    go true e = f (ltb-true m n e)
+    go false e = g (ltb-false m n e)
 
 abbrev pub View : Type 0
 View = ℕ → Process
 
 abbrev pub upd : View → ℕ → Process → View
-upd v p x = λ q. cond (eqb q p) x (v q)
+upd v p x = enteredFor p x v
 
 -- the view after a rule for p, whose partner is q
 abbrev pub effected : View → ℕ → ℕ → Effect → View
@@ -29,13 +39,13 @@ upd-same v p x = rw (eq-eqb p p refl) refl
 pub upd-other : (v : View) (p : ℕ) (x : Process) (q : ℕ) → (q ≡ p → ⊥) → upd v p x q ≡ v q
 upd-other v p x q h = rw (ne-eqb q p h)
 
--- a fact of each process
-pub upd-each : (A : ℕ → Process → Type 0) (v : View) (p : ℕ) (x : Process) → A p x → ((q : ℕ) → (q ≡ p → ⊥) → A q (v q)) → (q : ℕ) → A q (upd v p x q)
-upd-each A v p x a k q = go (eqb q p) refl
+-- a fact of what stands for each process, in a view or a book
+pub entered-each : {A : Type 0} (F : ℕ → A → Type 0) (old : ℕ → A) (p : ℕ) (a : A) → F p a → ((q : ℕ) → (q ≡ p → ⊥) → F q (old q)) → (q : ℕ) → F q (enteredFor p a old q)
+entered-each F old p a new rest q = go (eqb q p) refl
   where
-    go : (b : Bool) → eqb q p ≡ b → A q (cond b x (v q))
-    go true e = rw (eqb-true q p e) a
-    go false e = k q (eqb-false q p e)
+    go : (b : Bool) → eqb q p ≡ b → F q (cond b a (old q))
+    go true e = rw (eqb-true q p e) new
+    go false e = rest q (eqb-false q p e)
 
 -- a fact of each two processes
 pub upd-pair : (R : ℕ → ℕ → Process → Process → Type 0) (v : View) (p : ℕ) (x : Process)
@@ -63,8 +73,4 @@ upd-comm v p q x y ne = fun-ext (λ r. go r (eqb r p) refl (eqb r q) refl)
 
 -- a record put into the table is an update of its view
 pub put-view : (t : ProcessTable) (p : ℕ) (x : Process) → p < length (t .processes) → process (put t p x) ≡ upd (process t) p x
-put-view t p x h = fun-ext (λ q. go q (eqb q p) refl)
-  where
-    go : (q : ℕ) (b : Bool) → eqb q p ≡ b → process (put t p x) q ≡ cond b x (process t q)
-    go q true e = rw (eqb-true q p e) (getD-set-same (t .processes) p x nobody h)
-    go q false e = getD-set-other (t .processes) p q x nobody (eqb-false q p e)
+put-view t p x h = fun-ext (λ q. entered-each (λ q y. process (put t p x) q ≡ y) (process t) p x (getD-set-same (t .processes) p x nobody h) (λ q ne. getD-set-other (t .processes) p q x nobody ne) q)

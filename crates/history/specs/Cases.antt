@@ -7,7 +7,8 @@ use mathlib.Core.Option.{some, none}
 use lib.ListN.{replicate}
 use lib.Ieee.{binary32, ofBits}
 use Rattle.history.specs.Types.{Message, Nothing, Reading, Receive, Send, Guard, ProcessTable, Reply}
-use Rattle.rendezvous.specs.Table.{mostProcesses, freshProcess, freshTable}
+use Rattle.process.specs.Process.{freshProcess}
+use Rattle.rendezvous.specs.Table.{mostProcesses, freshTable}
 use Rattle.rendezvous.specs.Calls.{create, runnable}
 use Rattle.rendezvous.specs.Numbers.{A, T, C, P, O, H, S, W, M, Said, made, ticket, place, same, outcome, movers, refusal, said}
 use Rattle.history.specs.Run.{Call, Offer, Step, Collect, replyTo}

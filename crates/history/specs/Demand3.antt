@@ -8,7 +8,8 @@ use mathlib.Core.Option.{Option, some, none}
 use lib.ListN.{getElem?}
 use Rattle.alternative.specs.Guards.{guardsMatch, offersMatch}
 use Rattle.history.specs.Types.{Guard, Place, Idle, Entering, Scanning, Trying, Committed, Posting, Opening, Showing, Asleep, Waiting, Met, ProcessTable, Answer, Made, Offered, Moved, Unchanged, Collected, Runnable}
-use Rattle.rendezvous.specs.Table.{mostProcesses, ownList, ownGuard, postedGuard, process, freshTable, hasOpenOffer}
+use Rattle.process.specs.Process.{ownList, ownGuard, postedGuard}
+use Rattle.rendezvous.specs.Table.{mostProcesses, process, freshTable, hasOpenOffer}
 use Rattle.rendezvous.specs.Calls.{Quiescent}
 use Rattle.rendezvous.specs.Numbers.{Said, ticket, outcome, refusal}
 use Rattle.history.specs.Run.{Call, Offer, Step, Collect, replyTo, saidTo, tableAfter, tableAfterAll}

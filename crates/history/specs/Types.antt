@@ -6,8 +6,8 @@ pub use Rattle.alternative.specs.declared.Action.the-variants.{Receive, Send}
 pub use Rattle.alternative.specs.declared.Guard.{Guard}
 pub use Rattle.alternative.specs.declared.Found.{Found}
 pub use Rattle.alternative.specs.declared.Found.the-variants.{At, Missing}
-pub use Rattle.rendezvous.specs.declared.Place.{Place}
-pub use Rattle.rendezvous.specs.declared.Place.the-variants.{Idle, Entering, Scanning, Trying, Committed, Posting, Opening, Showing, Asleep, Waiting, Met}
+pub use Rattle.process.specs.declared.Place.{Place}
+pub use Rattle.process.specs.declared.Place.the-variants.{Idle, Entering, Scanning, Trying, Committed, Posting, Opening, Showing, Asleep, Waiting, Met}
 pub use Rattle.rendezvous.specs.declared.ProcessTable.{ProcessTable}
 pub use Rattle.rendezvous.specs.declared.Answer.{Answer}
 pub use Rattle.rendezvous.specs.declared.Answer.the-variants.{Made, Offered, Moved, Unchanged, Collected, Runnable}

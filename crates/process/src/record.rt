@@ -90,13 +90,13 @@ impl Process {
         ensures { λ r. ⌜ r ≡ changed self (self .place) signal accepting ⌝ }
     {
         let place = self.place;
-        let transaction = self.transaction;
+        let ticket = self.transaction;
         let guards = self.guards;
         let altlist = self.altlist;
         Process {
             place: place,
             signal: signal,
-            transaction: transaction,
+            transaction: ticket,
             accepting: accepting,
             count: self.count,
             altcount: self.altcount,

@@ -1,0 +1,110 @@
+-- The book follows every call on a good table.
+use Prim.Native.Nat.{ℕ, suc, _+_, _<_}
+use mathlib.Core.Path.{_≡_, refl, sym, ap, subst⁻¹}
+use mathlib.Core.List.{List, append-nil}
+use mathlib.Core.Logic.{inr}
+use mathlib.Core.Option.{some, none}
+use native.Mathlib.Omega.{arith}
+use borrow.Author.Tests.{eq-eqb, ne-eqb}
+use Rattle.alternative.specs.declared.Message.{Message}
+use Rattle.alternative.specs.declared.Guard.{Guard}
+use Rattle.alternative.specs.Guards.{lent}
+use Rattle.process.specs.declared.Place.the-variants.{Idle, Met}
+use Rattle.process.specs.declared.Process.{Process}
+use Rattle.rendezvous.specs.declared.ProcessTable.{ProcessTable}
+use Rattle.process.specs.Process.{ownList}
+use Rattle.rendezvous.specs.Table.{process}
+use Rattle.process.specs.Rules.{atPlace}
+use Rattle.rendezvous.specs.Numbers.{ticket}
+use Rattle.rendezvous.specs.Calls.{entering, offered, collected}
+use Rattle.rendezvous.proofs.Verdicts.{Admitted}
+use Rattle.history.specs.Run.{Call, Offer, Step, Collect, replyTo}
+use Rattle.history.specs.Book.{History, enteredFor, enter}
+use Rattle.history.proofs.View.{View, upd, entered-each, upd-other}
+use Rattle.history.proofs.Invariant.{Good}
+use Rattle.history.proofs.Places.{idle-is}
+use Rattle.history.proofs.Facts.{fine, unbound}
+use Rattle.history.proofs.Replies.{offer-elim, step-elim, collect-elim}
+use Rattle.history.proofs.GoodTable.{lent-back, put-one}
+use Rattle.history.proofs.Once.{once-offers}
+use Rattle.history.proofs.Due.{listsOf, Agrees, KeptOf, Kept, offer-at, due-at, agrees-other, lists-same}
+use Rattle.history.proofs.Followed.{Followed, joins-none, turned-away}
+use Rattle.history.proofs.Commit.{step-followed}
+
+module _ {t : ProcessTable} (good : Good t) {b : History} (k : Kept t b) (p : ℕ) where
+  offer-followed : (gs : List Guard) → Admitted t p (lent gs) → Followed t b (Offer p gs) (offered t p (lent gs))
+  unfolding enter offered entering lent
+  offer-followed gs a = record {
+    after = after;
+    entered = rw (← offer-at (k .each p) idle, due-at (k .each p) idle);
+    run = sym (append-nil (b .run));
+    joins = joins-none b;
+    ticket = inr (ap ticket (sym (k .counts)));
+    outcome = tt;
+    kept = subst⁻¹ (λ (v : View). KeptOf (t .next .0 + 1) v after) (put-one good p x (a .below)) (record {
+      counts = omega (arith, k .counts);
+      each = entered-each (Agrees (listsOf (upd (process t) p x)) after) (process t) p x own others;
+      once = once-offers (k .once) p gs;
+    });
+  }
+    where
+      x : Process
+      x = entering (process t p) (t .next) (lent gs)
+
+      after : History
+      after = record { next = suc (b .next); opened = enteredFor p (some (record { id = b .next; guards = gs })) (b .opened); due = b .due; run = b .run }
+
+      idle : process t p .place ≡ Idle
+      idle = idle-is (process t p .place) (a .idle)
+
+      -- the list that was lent is the own list
+      list : ownList x ≡ gs
+      list = rw (lent-back gs (a .most)) (lent-back gs (a .most))
+
+      own : Agrees (listsOf (upd (process t) p x)) after p x
+      own = record {
+        offer = rw (list, eq-eqb p p refl, k .counts);
+        at = tt;
+        told = rw (fine (process t) (good .inv) p _ idle .1) tt;
+      }
+
+      -- no process has committed to p
+      others : (r : ℕ) → (r ≡ p → ⊥) → Agrees (listsOf (upd (process t) p x)) after r (process t r)
+      others r rp = agrees-other (listsOf (process t)) (listsOf (upd (process t) p x)) b after r (process t r) (rw (ne-eqb r p rp)) refl
+          (λ i j c. (ap ownList (upd-other (process t) p x _ (unbound (process t) (good .inv) p _ idle (λ s. s) r i j c)), refl)) (k .each r)
+
+  collect-followed : p < t .n → (i : ℕ) (m : Message) → process t p .place ≡ Met i m → Followed t b (Collect p) (collected t p (process t p) (Met i m))
+  unfolding enter
+  collect-followed below i m e = record {
+    after = after;
+    entered = rw (due-at (k .each p) e);
+    run = sym (append-nil (b .run));
+    joins = joins-none b;
+    ticket = tt;
+    outcome = inr (_, due-at (k .each p) e, refl);
+    kept = subst⁻¹ (λ (v : View). KeptOf (t .next .0) v after) (put-one good p x below) (record {
+      counts = k .counts;
+      each = rw (lists-same (process t) p x refl) (entered-each (Agrees (listsOf (process t)) after) (process t) p x own others);
+      once = k .once;
+    });
+  }
+    where
+      x : Process
+      x = atPlace (process t p) Idle
+
+      after : History
+      after = record { next = b .next; opened = b .opened; due = enteredFor p none (b .due); run = b .run }
+
+      own : Agrees (listsOf (process t)) after p x
+      own = record { offer = offer-at (k .each p) e; at = rw (eq-eqb p p refl) refl; told = rw (fine (process t) (good .inv) p _ e .1) tt }
+
+      -- no process has committed to p
+      others : (r : ℕ) → (r ≡ p → ⊥) → Agrees (listsOf (process t)) after r (process t r)
+      others r rp = agrees-other (listsOf (process t)) (listsOf (process t)) b after r (process t r) refl (rw (ne-eqb r p rp))
+          (λ a j c. (refl, rw (ne-eqb _ p (unbound (process t) (good .inv) p _ e (λ s. s) r a j c)))) (k .each r)
+
+pub followed : (t : ProcessTable) (b : History) → Good t → Kept t b → (c : Call) → Followed t b c (replyTo t c)
+unfolding replyTo
+followed t b good k (Offer p gs) = offer-elim (Followed t b (Offer p gs)) t (turned-away t b (Offer p gs) k) p gs (offer-followed good k p gs)
+followed t b good k (Step p) = step-elim (Followed t b (Step p)) t (turned-away t b (Step p) k) p (step-followed good k p)
+followed t b good k (Collect p) = collect-elim (Followed t b (Collect p)) t (turned-away t b (Collect p) k) p (collect-followed good k p)

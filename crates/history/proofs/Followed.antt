@@ -1,0 +1,117 @@
+-- What it means that the book follows a call; it does where the call is refused, and at every step that is no commit.
+use Prim.Native.Nat.{ℕ, suc, _<_}
+use mathlib.Core.Path.{_≡_, refl, sym, _∙_, subst, subst⁻¹}
+use mathlib.Core.Bool.{Bool, true, false}
+use mathlib.Core.List.{[], _∷_, _++_, append-nil}
+use mathlib.Core.Logic.{inl}
+use mathlib.Core.Option.{some}
+use native.Mathlib.Omega.{arith}
+use Rattle.alternative.specs.declared.Found.{Found}
+use Rattle.alternative.specs.declared.Found.the-variants.{At, Missing}
+use Rattle.alternative.specs.Guards.{nextEnabled}
+use Rattle.process.specs.declared.Signal.{Signal}
+use Rattle.process.specs.declared.Signal.the-variants.{Absent, Present}
+use Rattle.process.specs.declared.Place.the-variants.{Scanning, Committed, Waiting}
+use Rattle.process.specs.declared.State.{State}
+use Rattle.process.specs.declared.State.the-variants.{Running, Alt, Sleeping}
+use Rattle.process.specs.declared.Process.{Process}
+use Rattle.rendezvous.specs.declared.ProcessTable.{ProcessTable}
+use Rattle.rendezvous.specs.declared.Refusal.{Refusal}
+use Rattle.rendezvous.specs.declared.Answer.the-variants.{Moved, Unchanged}
+use Rattle.rendezvous.specs.declared.Reply.{Reply}
+use Rattle.process.specs.Process.{indexOf, ownList, ownGuard}
+use Rattle.rendezvous.specs.Table.{process, put}
+use Rattle.process.specs.Rules.{Own, atPlace, scanAt, scanFrom, scan, handOver, absorb}
+use Rattle.rendezvous.specs.Calls.{refused, applied}
+use Rattle.rendezvous.specs.Numbers.{refusalNumber, letterOf, said}
+use Rattle.history.specs.Run.{Call, Offer, Step, Collect}
+use Rattle.history.specs.Book.{Rendezvous, History, seen, stepping, enter}
+use Rattle.history.specs.Demand3.{commitAt, commitBy, Joins, TicketIsNext, OutcomeWasDue}
+use Rattle.history.proofs.View.{View, entered-each}
+use Rattle.history.proofs.Invariant.{Good}
+use Rattle.history.proofs.Matches.{match}
+use Rattle.history.proofs.Places.{told-woken}
+use Rattle.history.proofs.Facts.{fine, at-names, shown, commit-binds}
+use Rattle.history.proofs.GoodTable.{put-one, put-two}
+use Rattle.history.proofs.Due.{offerOf, openOf, listsOf, DueAt, DueBy, Agrees, KeptOf, Kept, lists-same, offer-at, due-at, each-two}
+
+-- the book follows a call on table t: it is not stuck, it has the rendezvous, ticket or outcome of the call, and it goes with the table handed back
+pub record Followed (t : ProcessTable) (b : History) (c : Call) (reply : Reply) : Type 0 where
+  pub after : History
+  pub entered : enter b c (seen (said (reply .answer))) ≡ some after
+  pub run : after .run ≡ b .run ++ commitBy t c (reply .answer)
+  pub joins : (r : Rendezvous) → commitBy t c (reply .answer) ≡ r ∷ [] → Joins b r
+  pub ticket : TicketIsNext b c (said (reply .answer)) after
+  pub outcome : OutcomeWasDue b c (said (reply .answer)) after
+  pub kept : Kept (reply .table) after
+
+-- a call that is no commit
+pub joins-none : (b : History) (r : Rendezvous) → [] ≡ r ∷ [] → Joins b r
+joins-none b r e = let z : _≡_ {A = ℕ} 0 1 = cc in absurd (omega arith)
+
+-- a call at which nothing is entered
+enters-nothing : {t : ProcessTable} {b : History} (c : Call) (reply : Reply) → enter b c (seen (said (reply .answer))) ≡ some b → commitBy t c (reply .answer) ≡ []
+    → TicketIsNext b c (said (reply .answer)) b → OutcomeWasDue b c (said (reply .answer)) b → Kept (reply .table) b → Followed t b c reply
+enters-nothing {t} {b} c reply e z i o k = record { after = b; entered = e; run = rw (z, append-nil (b .run)); joins = λ r f. joins-none b r (sym z ∙ f); ticket = i; outcome = o; kept = k }
+
+pub turned-away : (t : ProcessTable) (b : History) (c : Call) → Kept t b → (r : Refusal) → Followed t b c (refused r t)
+unfolding enter
+turned-away t b (Offer p gs) k r = enters-nothing _ _ refl refl (inl (refusalNumber r, refl)) tt k
+turned-away t b (Step p) k r = enters-nothing _ _ refl refl tt tt k
+turned-away t b (Collect p) k r = enters-nothing _ _ refl refl tt (inl (refusalNumber r, refl)) k
+
+module _ {t : ProcessTable} (good : Good t) {b : History} (k : Kept t b) (p : ℕ) (below : p < t .n) where
+  pub stays : Followed t b (Step p) (record { answer = Unchanged; table = t })
+  unfolding enter
+  stays = enters-nothing _ _ refl refl tt tt k
+
+  -- one record is new, with the list of the old
+  pub moves : (x : Process) → stepping b p (letterOf (x .place)) (indexOf (x .place)) ≡ some b → commitAt t p (x .place) ≡ [] → ownList x ≡ ownList (process t p)
+      → openOf x ≡ b .opened p → DueAt (listsOf (process t)) (b .due) p (ownList x) (x .place) → DueBy (ownList x) (x .signal) (b .due p)
+      → Followed t b (Step p) (record { answer = Moved (x .place); table = put t p x })
+  unfolding enter
+  moves x e c l o d s = enters-nothing _ _ e c tt tt (subst⁻¹ (λ (v : View). KeptOf (t .next .0) v b) (put-one good p x below) (record {
+    counts = k .counts;
+    each = rw (lists-same (process t) p x l) (entered-each (Agrees (listsOf (process t)) b) (process t) p x (record { offer = o; at = d; told = s }) (λ r _. k .each r));
+    once = k .once;
+  }))
+
+  -- the scan goes on
+  pub scans : (q i : ℕ) → some (offerOf (process t p)) ≡ b .opened p → Followed t b (Step p) (applied t p q (scanFrom (process t p) i))
+  unfolding scanFrom
+  scans q i o = go (nextEnabled (ownList (process t p)) i)
+    where
+      go : (f : Found) → Followed t b (Step p) (applied t p q (Own (atPlace (process t p) (scanAt f))))
+      go (At i) = moves _ refl refl refl o tt (k .each p .told)
+      go Missing = moves _ refl refl refl o tt (k .each p .told)
+
+  pub scan-followed : (i : ℕ) → process t p .place ≡ Scanning i → (w : State) (older : Bool)
+      → Followed t b (Step p) (applied t p (ownGuard (process t p) i .partner) (scan (process t p) i w older))
+  scan-followed i e Running older = scans _ (suc i) (offer-at (k .each p) e)
+  scan-followed i e Sleeping older = scans _ (suc i) (offer-at (k .each p) e)
+  scan-followed i e State.Waiting older = moves _ refl refl refl (offer-at (k .each p) e) tt (k .each p .told)
+  scan-followed i e Alt true = moves _ refl refl refl (offer-at (k .each p) e) tt (k .each p .told)
+  scan-followed i e Alt false = stays
+
+  pub absorbs : process t p .place ≡ Waiting → (s : Signal) → process t p .signal ≡ s → Followed t b (Step p) (applied t p 0 (absorb (process t p) s))
+  absorbs e Absent f = stays
+  absorbs e (Present j m) f = moves _ refl refl refl
+      (rw (told-woken _ _ j m (fine (process t) (good .inv) p _ e .deaf) f) at (offer-at (k .each p) e))
+      (subst (λ (s : Signal). DueBy (ownList (process t p)) s (b .due p)) f (k .each p .told)) tt
+
+  -- rule 9: what was pledged is handed over
+  pub signals : (i j : ℕ) → process t p .place ≡ Committed i j
+      → Followed t b (Step p) (applied t p (ownGuard (process t p) i .partner) (handOver (process t p) i j (process t (ownGuard (process t p) i .partner))))
+  unfolding enter handOver
+  signals i j e =
+      let q = ownGuard (process t p) i .partner in
+      let binds = commit-binds (process t) (good .inv) p i j e in
+      let due = due-at (k .each p) e in
+      enters-nothing _ _ refl refl tt tt (subst⁻¹ (λ (v : View). KeptOf (t .next .0) v b) (put-two good p _ below q _ (at-names (process t) (good .inv) p i (rw e refl) .below)) (record {
+        counts = k .counts;
+        each = each-two (process t) b p q _ _ refl refl
+            (record { offer = offer-at (k .each p) e; at = rw (shown (process t) (good .inv) q (binds .0 .shows) .posted) (due .mine); told = k .each p .told })
+            (record { offer = k .each q .offer; at = k .each q .at; told = rw (match (binds .1) .back) (due .theirs) })
+            (λ r _ _. k .each r);
+        once = k .once;
+      }))
