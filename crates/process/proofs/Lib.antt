@@ -1,3 +1,4 @@
+pub mod Differs
 pub mod Kept
 pub mod Movers
 pub mod RuleLaws

@@ -1,4 +1,4 @@
--- Not to be believed: forms that only contracts of private functions cite.
+-- Not to be believed: forms that inner contracts cite; no contract of a call and no part of demand 3 does.
 use mathlib.Core.Bool.{Bool, true, false, not}
 use lib.Dec.{leb}
 use Rattle.process.specs.Types.{Signal, Absent, Present, Place, Idle, Entering, Scanning, Trying, Committed, Posting, Opening, Showing, Asleep, Waiting, Met, State, Running, Alt, Sleeping, Process}

@@ -1,3 +1,4 @@
+pub mod Changes
 pub mod Forms
 pub mod Lengths
 pub mod Offers

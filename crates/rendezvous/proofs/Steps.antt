@@ -137,7 +137,7 @@ module _ (t : ProcessTable) (p : ℕ) (accepted : processVerdict t p ≡ Accepte
   unfolding collect
   collect-met i m g y e f h = rw (f, h, inside t p accepted .own, accepted) (at-met t p (process t p) (process t p .place) i m (rw (inside t p accepted .own) at e))
 
-process-accepted : (t : ProcessTable) (p : ℕ) → wellFormed t ≡ true → p < t .n → processVerdict t p ≡ Accepted
+pub process-accepted : (t : ProcessTable) (p : ℕ) → wellFormed t ≡ true → p < t .n → processVerdict t p ≡ Accepted
 unfolding processVerdict
 process-accepted t p e h = rw (e, lt-ltb p (t .n) h)
 

@@ -1,0 +1,95 @@
+-- A rule that changes anything changes the place of the process that steps.
+use Prim.Native.Nat.{ℕ, suc, _≤_}
+use mathlib.Core.Path.{_≡_, refl, sym, ap, _∙_}
+use mathlib.Core.Bool.{Bool, true, false, cond}
+use mathlib.Core.List.{List, [], _∷_}
+use native.Mathlib.Omega.{arith}
+use lib.ListN.{drop}
+use lib.Dec.{ltb}
+use Rattle.alternative.specs.Guards.{firstFrom, firstMatch, nextEnabled}
+use Rattle.process.specs.Types.{Guard, Found, At, Missing, Signal, Absent, Present, Place, Idle, Entering, Scanning, Trying, Committed, Posting, Opening, Showing, Asleep, Waiting, Met, State, Running, Alt, Sleeping, Process}
+use Rattle.process.specs.Process.{stateOf, ownList, postedList, ownGuard}
+use Rattle.process.specs.Rules.{Effect, Neither, Own, Both, scanAt, scanFrom, scan, try, handOver, absorb, ruleAt, rule}
+
+-- the kind of a place, to tell two apart
+kind : Place → ℕ
+kind Idle = 0
+kind Entering = 1
+kind (Scanning i) = 2
+kind (Trying i) = 3
+kind (Committed i j) = 4
+kind Posting = 5
+kind Opening = 6
+kind Showing = 7
+kind Asleep = 8
+kind Waiting = 9
+kind (Met i m) = 10
+
+abbrev pub Differs : Place → Effect → Type 0
+Differs place Neither = Unit {0}
+Differs place (Own x) = x .place ≡ place → ⊥
+Differs place (Both x y) = x .place ≡ place → ⊥
+
+-- a search that starts at k finds nothing before k
+found-from : (test : Guard → Bool) (gs : List Guard) (k i : ℕ) → firstFrom test gs k ≡ At i → k ≤ i
+unfolding firstFrom
+found-from test [] k i e = let z : _≡_ {A = ℕ} 0 1 = cc in absurd (omega arith)
+found-from test (g ∷ gs) k i e = go (test g) (found-from test gs (suc k) i) e
+  where
+    go : (b : Bool) → (firstFrom test gs (suc k) ≡ At i → suc k ≤ i) → cond b (At k) (firstFrom test gs (suc k)) ≡ At i → k ≤ i
+    go true h f = let z : k ≡ i = cc in omega arith
+    go false h f = let l = h f in omega arith
+
+from-differs : (x : Process) (k : ℕ) (place : Place) → ((i : ℕ) → k ≤ i → Scanning i ≡ place → ⊥) → (Posting ≡ place → ⊥) → Differs place (scanFrom x k)
+unfolding scanFrom nextEnabled
+from-differs x k place h g = go (nextEnabled (ownList x) k) refl
+  where
+    go : (f : Found) → nextEnabled (ownList x) k ≡ f → scanAt f ≡ place → ⊥
+    go (At i) e = h i (found-from (λ g. g .enabled) (drop k (ownList x)) k i e)
+    go Missing e = g
+
+after-differs : (x : Process) (i : ℕ) → Differs (Scanning i) (scanFrom x (suc i))
+unfolding kind
+after-differs x i = from-differs x (suc i) (Scanning i) (λ j h e. let z : j ≡ i = cc in omega arith) (λ e. let z : _≡_ {A = ℕ} 5 2 = ap kind e in omega arith)
+
+other-differs : (x : Process) (k : ℕ) (place : Place) → (kind place ≡ 2 → ⊥) → (kind place ≡ 5 → ⊥) → Differs place (scanFrom x k)
+unfolding kind
+other-differs x k place h g = from-differs x k place (λ i _ e. h (sym (ap kind e))) (λ e. g (sym (ap kind e)))
+
+scan-differs : (x : Process) (i : ℕ) (s : State) (older : Bool) → Differs (Scanning i) (scan x i s older)
+unfolding kind
+scan-differs x i Running older = after-differs x i
+scan-differs x i Sleeping older = after-differs x i
+scan-differs x i State.Waiting older = λ e. let z : _≡_ {A = ℕ} 3 2 = ap kind e in omega arith
+scan-differs x i Alt true = λ e. let z : _≡_ {A = ℕ} 8 2 = ap kind e in omega arith
+scan-differs x i Alt false = tt
+
+try-differs : (x : Process) (i : ℕ) (y : Process) (accepting : Bool) (found : Found) → Differs (Trying i) (try x i y accepting found)
+unfolding kind
+try-differs x i y true (At j) = λ e. let z : _≡_ {A = ℕ} 4 3 = ap kind e in omega arith
+try-differs x i y true Missing = other-differs x (suc i) (Trying i) (omega arith) (omega arith)
+try-differs x i y false (At j) = other-differs x (suc i) (Trying i) (omega arith) (omega arith)
+try-differs x i y false Missing = other-differs x (suc i) (Trying i) (omega arith) (omega arith)
+
+absorb-differs : (x : Process) (s : Signal) → Differs Waiting (absorb x s)
+unfolding kind
+absorb-differs x (Present j m) = λ e. let z : _≡_ {A = ℕ} 10 9 = ap kind e in omega arith
+absorb-differs x Absent = tt
+
+at-differs : (p : ℕ) (x : Process) (q : ℕ) (y : Process) (place : Place) → Differs place (ruleAt p x q y place)
+unfolding kind handOver
+at-differs p x q y Entering = other-differs x 0 Entering (omega arith) (omega arith)
+at-differs p x q y Asleep = other-differs x 0 Asleep (omega arith) (omega arith)
+at-differs p x q y (Scanning i) = scan-differs x i (stateOf (y .place)) (ltb (y .transaction .0) (x .transaction .0))
+at-differs p x q y (Trying i) = try-differs x i y (y .accepting) (firstMatch p (ownGuard x i) q (postedList y))
+at-differs p x q y (Committed i j) = λ e. let z : _≡_ {A = ℕ} 10 4 = ap kind e in omega arith
+at-differs p x q y Posting = λ e. let z : _≡_ {A = ℕ} 6 5 = ap kind e in omega arith
+at-differs p x q y Opening = λ e. let z : _≡_ {A = ℕ} 7 6 = ap kind e in omega arith
+at-differs p x q y Showing = λ e. let z : _≡_ {A = ℕ} 9 7 = ap kind e in omega arith
+at-differs p x q y Waiting = absorb-differs x (x .signal)
+at-differs p x q y Idle = tt
+at-differs p x q y (Met i m) = tt
+
+pub rule-differs : (p : ℕ) (x : Process) (q : ℕ) (y : Process) → Differs (x .place) (rule p x q y)
+unfolding rule
+rule-differs p x q y = at-differs p x q y (x .place)
