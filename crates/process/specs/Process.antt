@@ -48,6 +48,7 @@ ownGuard x i = getD (ownList x) i blank
 abbrev pub postedGuard : Process → ℕ → Guard
 postedGuard x i = getD (postedList x) i blank
 
+-- at I
 abbrev pub isIdle : Place → Bool
 isIdle Idle = true
 isIdle Entering = false

@@ -1,0 +1,10 @@
+-- `lent::packed` meets its contract: the record is the one that the code builds.
+use mathlib.Core.Path.{refl}
+use Rattle.lent.proofs.packed.Statement.{statement}
+use Rattle.lent.proofs.packed.Tie as tie
+
+returns : tie.Need-returns
+returns c = refl
+
+pub packed-spec : {M : Type 1} → statement M
+packed-spec = tie.close (tie.spec returns)
