@@ -1,9 +1,9 @@
 -- The eight slots of a list hold its guards, and blanks past its end.
-use Prim.Native.Nat.{ℕ, zero, suc, _+_, _≤_, _<_}
+use Prim.Native.Nat.{ℕ, zero, suc, _<_}
 use mathlib.Core.Path.{_≡_, refl, sym, _∙_}
 use mathlib.Core.List.{List, [], _∷_, _++_}
 use native.Mathlib.Omega.{arith}
-use lib.ListN.{getD, take, length, replicate, length-append, length-take, length-replicate}
+use lib.ListN.{getD, length, replicate, length-append, length-take, length-replicate}
 use lib.Seq.{getD-take, ext-getD}
 use Rattle.alternative.specs.declared.Guard.{Guard}
 use Rattle.alternative.specs.Guards.{blank, slots}

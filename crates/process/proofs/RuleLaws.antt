@@ -6,7 +6,7 @@ use mathlib.Core.List.{List}
 use native.Mathlib.Numerals.{add-one}
 use Rattle.alternative.specs.Guards.{firstMatch}
 use Rattle.process.specs.Types.{Guard, Found, At, Missing, Signal, Place, Committed, Process}
-use Rattle.process.specs.Rules.{Effect, Both, atPlace, withAccepting, scanFrom, try, absorb, ruleAt, rule}
+use Rattle.process.specs.Rules.{Both, atPlace, withAccepting, scanFrom, try, absorb, ruleAt, rule}
 
 pub rule-at : (p : ℕ) (x : Process) (q : ℕ) (y : Process) (place : Place) → x .place ≡ place → rule p x q y ≡ ruleAt p x q y place
 unfolding rule

@@ -1,15 +1,15 @@
 -- The set of processes that can move holds bit p exactly where a step of p changes the table.
-use Prim.Native.Nat.{ℕ, _^_, _/_, _%_, _≤_, _<_}
+use Prim.Native.Nat.{ℕ, _^_, _/_, _%_, _<_}
 use mathlib.Core.Path.{_≡_, refl, sym, ap, _∙_}
-use mathlib.Core.Bool.{Bool, true, false, cond, false≢true}
+use mathlib.Core.Bool.{true, false, cond, false≢true}
 use native.Mathlib.Omega.{arith}
 use lib.ListN.{length, set, length-set}
 use lib.Seq.{getD-set-same}
 use Rattle.process.specs.Process.{nobody}
 use Rattle.process.specs.Rules.{Effect, Neither, Own, Both, rule, partnerOf, changes}
 use Rattle.process.proofs.Differs.{Differs, rule-differs}
-use Rattle.rendezvous.specs.Types.{Place, Process, ProcessTable}
-use Rattle.rendezvous.specs.Table.{process, put}
+use Rattle.rendezvous.specs.Types.{Process, ProcessTable}
+use Rattle.rendezvous.specs.Table.{process}
 use Rattle.rendezvous.specs.WellFormed.{wellFormed}
 use Rattle.rendezvous.specs.Calls.{effectOn, applied, stepped, step, runnableSet}
 use Rattle.rendezvous.proofs.Forms.{formed-most}

@@ -13,7 +13,6 @@ use Rattle.rendezvous.specs.declared.ProcessTable.{ProcessTable}
 use Rattle.rendezvous.specs.declared.Answer.the-variants.{Offered}
 use Rattle.rendezvous.specs.declared.Refusal.{Refusal}
 use Rattle.rendezvous.specs.declared.Refusal.the-variants.{NotWellFormed, NoSuchProcess}
-use Rattle.rendezvous.specs.declared.Reply.{Reply}
 use Rattle.rendezvous.specs.declared.Verdict.{Verdict}
 use Rattle.rendezvous.specs.declared.Verdict.the-variants.{Accepted}
 use Rattle.rendezvous.specs.Table.{process}

@@ -1,6 +1,6 @@
 -- Sets of numbers below n as bits, for any n: `setBelow member n` has bit p exactly where p is below n and a member; and the call that gives such a set.
 use Prim.Native.Nat.{ℕ, suc, zero, _+_, _*_, _^_, _-_, _/_, _%_, _≤_, _<_}
-use mathlib.Core.Path.{_≡_, refl, sym, ap, subst, _∙_}
+use mathlib.Core.Path.{_≡_, ap, _∙_}
 use mathlib.Core.Bool.{Bool, true, false, cond}
 use mathlib.Core.Logic.{⊎-elim}
 use native.Mathlib.Nat.{two-pow-succ, one-le-pow, pow-le-pow-right, pow-zero, pow-suc, add-zero, add-suc, mul-one, mul-assoc, add-mul-div-left, add-div-right, div-eq-of-lt, eq-or-lt-of-le, le-of-suc-le-suc, not-suc-le-zero}

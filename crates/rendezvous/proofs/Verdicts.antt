@@ -3,7 +3,6 @@ use Prim.Native.Nat.{ℕ, _≤_, _<_}
 use mathlib.Core.Path.{_≡_, refl, sym, _∙_}
 use mathlib.Core.Bool.{Bool, true, false, not, _&&_}
 use mathlib.Core.List.{List, [], _∷_}
-use mathlib.Core.Logic.{_⊎_, inl, inr}
 use native.Mathlib.Omega.{arith}
 use lib.ListN.{take}
 use lib.Dec.{ltb, leb}
@@ -23,11 +22,6 @@ use Rattle.alternative.proofs.Tests.{and-parts}
 use Rattle.process.specs.Process.{isIdle}
 use Rattle.process.specs.Fits.{allGuards, partnerFits}
 use Rattle.rendezvous.specs.Refusals.{require, requireGuards, processVerdict, listVerdict, stateVerdict, offerVerdict}
-
--- a verdict accepts, or refuses by some refusal
-pub either : (v : Verdict) → (v ≡ Accepted) ⊎ ((r : Refusal) × (v ≡ Refused r))
-either Accepted = inl refl
-either (Refused r) = inr (r, refl)
 
 never : (r : Refusal) → Accepted ≡ Refused r → ⊥
 never r e = let z : _≡_ {A = ℕ} 0 1 = cc in omega arith
