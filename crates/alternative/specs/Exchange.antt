@@ -1,10 +1,6 @@
 -- To be believed. Document 01, rule 9 and refusal 5: the messages that a rendezvous hands over, and messages that hold a NaN.
-use mathlib.Core.Bool.{Bool, false, _||_}
 use lib.Ieee.{isNan}
-use Rattle.alternative.specs.declared.Message.{Message}
-use Rattle.alternative.specs.declared.Message.the-variants.{Nothing, Whole, Reading, Limit}
-use Rattle.alternative.specs.declared.Action.{Action}
-use Rattle.alternative.specs.declared.Action.the-variants.{Receive, Send}
+use Rattle.alternative.specs.Types.{Bool, false, _||_, Message, Nothing, Whole, Reading, Limit, Action, Receive, Send}
 
 -- "If the own guard sends, its message goes with the signal ..; if it receives, .. the signal nothing."
 abbrev pub sentBy : Action → Message

@@ -1,15 +1,5 @@
 -- To be believed. Document 01, "The desk and its tasks" and rule 7: when guards and offers match, and the two searches in a list of guards.
-use Prim.Native.Nat.{ℕ, suc}
-use mathlib.Core.Bool.{Bool, true, false, _&&_, _||_, cond}
-use mathlib.Core.List.{List, [], _∷_, _++_}
-use lib.ListN.{take, drop, length, replicate}
-use lib.Dec.{eqb}
-use Rattle.alternative.specs.declared.Action.{Action}
-use Rattle.alternative.specs.declared.Action.the-variants.{Receive, Send}
-use Rattle.alternative.specs.declared.Guard.{Guard}
-use Rattle.alternative.specs.declared.GuardList.{GuardList}
-use Rattle.alternative.specs.declared.Found.{Found}
-use Rattle.alternative.specs.declared.Found.the-variants.{At, Missing}
+use Rattle.alternative.specs.Types.{ℕ, suc, Bool, true, false, _&&_, _||_, cond, List, [], _∷_, _++_, length, take, drop, replicate, eqb, Action, Receive, Send, Guard, GuardList, Found, At, Missing}
 
 -- "its list of up to eight guards"
 abbrev pub mostGuards : ℕ

@@ -1,10 +1,12 @@
 -- What it means that the book follows a call; it does where the call is refused, and at every step that is no commit.
 use Prim.Native.Nat.{ℕ, suc, _<_}
+use Prim.Native.Char.{code}
 use mathlib.Core.Path.{_≡_, refl, sym, _∙_, subst, subst⁻¹}
 use mathlib.Core.Bool.{Bool, true, false}
 use mathlib.Core.List.{[], _∷_, _++_, append-nil}
 use mathlib.Core.Logic.{inl}
 use mathlib.Core.Option.{some}
+use lib.Dec.{eqb}
 use native.Mathlib.Omega.{arith}
 use Rattle.alternative.specs.declared.Found.{Found}
 use Rattle.alternative.specs.declared.Found.the-variants.{At, Missing}
@@ -19,11 +21,11 @@ use Rattle.rendezvous.specs.declared.ProcessTable.{ProcessTable}
 use Rattle.rendezvous.specs.declared.Refusal.{Refusal}
 use Rattle.rendezvous.specs.declared.Answer.the-variants.{Moved, Unchanged}
 use Rattle.rendezvous.specs.declared.Reply.{Reply}
-use Rattle.process.specs.Process.{indexOf, ownList, ownGuard}
+use Rattle.process.specs.Process.{letterOf, indexOf, ownList, ownGuard}
 use Rattle.rendezvous.specs.Table.{process, put}
 use Rattle.process.specs.Rules.{Own, atPlace, scanAt, scanFrom, scan, handOver, absorb}
 use Rattle.rendezvous.specs.Calls.{refused, applied}
-use Rattle.rendezvous.specs.Numbers.{refusalNumber, letterOf, said}
+use Rattle.rendezvous.specs.Numbers.{refusalNumber, said}
 use Rattle.history.specs.Run.{Call, Offer, Step, Collect}
 use Rattle.history.specs.Book.{Rendezvous, History, seen, stepping, enter}
 use Rattle.history.specs.Demand3.{commitAt, commitBy, Joins, TicketIsNext, OutcomeWasDue}
@@ -66,7 +68,7 @@ module _ {t : ProcessTable} (good : Good t) {b : History} (k : Kept t b) (p : �
   stays = enters-nothing _ _ refl refl tt tt k
 
   -- one record is new, with the list of the old
-  pub moves : (x : Process) → stepping b p (letterOf (x .place)) (indexOf (x .place)) ≡ some b → commitAt t p (x .place) ≡ [] → ownList x ≡ ownList (process t p)
+  pub moves : (x : Process) → stepping b p (eqb (letterOf (x .place)) (code "C")) (indexOf (x .place)) ≡ some b → commitAt t p (x .place) ≡ [] → ownList x ≡ ownList (process t p)
       → openOf x ≡ b .opened p → DueAt (listsOf (process t)) (b .due) p (ownList x) (x .place) → DueBy (ownList x) (x .signal) (b .due p)
       → Followed t b (Step p) (record { answer = Moved (x .place); table = put t p x })
   unfolding enter

@@ -1,14 +1,8 @@
 -- To be believed. Document 01, "The plain book".
-use Prim.Native.Nat.{ℕ, suc}
-use mathlib.Core.Bool.{cond}
-use mathlib.Core.List.{List, [], _∷_, _++_}
-use mathlib.Core.Option.{Option, some, none}
-use lib.ListN.{getElem?}
-use lib.Dec.{eqb}
 use Rattle.alternative.specs.Guards.{firstMatch}
 use Rattle.alternative.specs.Exchange.{sentBy}
-use Rattle.history.specs.Types.{Message, Nothing, Action, Receive, Send, Guard, Found, At, Missing}
-use Rattle.rendezvous.specs.Numbers.{Letter, I, E, A, T, C, P, O, H, S, W, M, Said, made, ticket, place, same, outcome, movers, refusal}
+use Rattle.rendezvous.specs.Numbers.{Said, made, ticket, place, same, outcome, movers, refusal}
+use Rattle.history.specs.Types.{ℕ, suc, code, Bool, true, false, cond, List, [], _∷_, _++_, Option, some, none, getElem?, eqb, Message, Nothing, Action, Receive, Send, Guard, Found, At, Missing}
 use Rattle.history.specs.Run.{Call, Offer, Step, Collect}
 
 -- "For each party it has an open offer (ticket and guard list) or none, and a due outcome (guard index, partner, message) or none. It also has a next ticket and the
@@ -45,7 +39,7 @@ emptyHistory = record { next = 0; opened = λ p. none; due = λ p. none; run = [
 pub data Seen : Type 0 where
   refused : Seen
   accepted : Seen
-  at : Letter → Option ℕ → Seen
+  at : ℕ → Option ℕ → Seen
 
 abbrev pub seen : Said → Seen
 seen (refusal number) = refused
@@ -108,20 +102,11 @@ committing b p i = do
   h ← getElem? (theirs .guards) j
   some (withRendezvous b p i mine g j theirs h)
 
--- "Step of p answered C with index i, the commit"; "Any other step ..: nothing changes."
-abbrev pub stepping : History → ℕ → Letter → Option ℕ → Option History
-stepping b p C (some i) = committing b p i
-stepping b p C none = none
-stepping b p I index = some b
-stepping b p E index = some b
-stepping b p A index = some b
-stepping b p T index = some b
-stepping b p P index = some b
-stepping b p O index = some b
-stepping b p H index = some b
-stepping b p S index = some b
-stepping b p W index = some b
-stepping b p M index = some b
+-- "Step of p answered C with index i, the commit"; "Any other step ..: nothing changes.": whether the letter is C, and the index
+abbrev pub stepping : History → ℕ → Bool → Option ℕ → Option History
+stepping b p true (some i) = committing b p i
+stepping b p true none = none
+stepping b p false index = some b
 
 -- "Accepted collection from p: p's due outcome is given and removed."
 abbrev pub collecting : History → ℕ → Option Due → Option History
@@ -135,7 +120,7 @@ enter b (Offer p gs) accepted = offering b p gs (b .opened p) (b .due p)
 enter b (Offer p gs) (at letter index) = none
 enter b (Step p) refused = some b
 enter b (Step p) accepted = some b
-enter b (Step p) (at letter index) = stepping b p letter index
+enter b (Step p) (at letter index) = stepping b p (eqb letter (code "C")) index
 enter b (Collect p) refused = some b
 enter b (Collect p) accepted = collecting b p (b .due p)
 enter b (Collect p) (at letter index) = none

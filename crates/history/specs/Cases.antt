@@ -1,16 +1,11 @@
 -- To be believed. Document 01, "Edges to try": the starred cases, in its order, with its numbers.
-use Prim.Native.Nat.{ℕ}
-use mathlib.Core.Path.{_≡_}
-use mathlib.Core.Bool.{true, false}
-use mathlib.Core.List.{List, [], _∷_, map}
-use mathlib.Core.Option.{some, none}
-use lib.ListN.{replicate}
+use mathlib.Core.List.{map}
 use lib.Ieee.{binary32, ofBits}
-use Rattle.history.specs.Types.{Message, Nothing, Reading, Receive, Send, Guard, ProcessTable, Reply}
 use Rattle.process.specs.Process.{freshProcess}
 use Rattle.rendezvous.specs.Table.{mostProcesses, freshTable}
 use Rattle.rendezvous.specs.Calls.{create, runnable}
-use Rattle.rendezvous.specs.Numbers.{A, T, C, P, O, H, S, W, M, Said, made, ticket, place, same, outcome, movers, refusal, said}
+use Rattle.rendezvous.specs.Numbers.{Said, made, ticket, place, same, outcome, movers, refusal, said}
+use Rattle.history.specs.Types.{ℕ, Char, code, _≡_, true, false, List, [], _∷_, Option, some, none, replicate, Message, Nothing, Reading, Receive, Send, Guard, ProcessTable, Reply}
 use Rattle.history.specs.Run.{Call, Offer, Step, Collect, replyTo}
 
 -- a new table, one of the calls of demand 3, or movers
@@ -61,6 +56,10 @@ disabled q = record { enabled = false; partner = q; action = Receive }
 abbrev pub withNext : ℕ → ProcessTable
 withNext next = record { n = 2; next = record { 0 = next }; processes = replicate mostProcesses freshProcess }
 
+-- a place by its letter, with the guard index at A, T and C
+abbrev pub at : Char → Option ℕ → Said
+at letter index = place (code letter) index
+
 -- process 0 offers a reading to process 1, which takes it: both collect
 abbrev pub handOver : ℕ → List Command
 handOver bits =
@@ -72,8 +71,8 @@ handOver bits =
 abbrev pub handedOver : ℕ → List Said
 handedOver bits =
     made ∷ ticket 0 ∷ ticket 1
-    ∷ place A (some 0) ∷ place P none ∷ place O none ∷ place H none ∷ place W none
-    ∷ place A (some 0) ∷ place T (some 0) ∷ place C (some 0) ∷ place M none ∷ place M none
+    ∷ at "A" (some 0) ∷ at "P" none ∷ at "O" none ∷ at "H" none ∷ at "W" none
+    ∷ at "A" (some 0) ∷ at "T" (some 0) ∷ at "C" (some 0) ∷ at "M" none ∷ at "M" none
     ∷ outcome 0 0 (reading bits) ∷ outcome 0 1 Nothing ∷ movers 0 ∷ []
 
 abbrev pub case : List Command → List Said → Case
@@ -104,7 +103,7 @@ starred =
     -- parties 0 and 1, one guard each, at A on each other, tickets 0 and 1: a step of 0 changes nothing; a step of 1 puts it to S; then a step of 0 goes to P
     ∷ case
     (New 2 ∷ offers 0 (send 1 0x40970a3d ∷ []) ∷ offers 1 (receive 0 ∷ []) ∷ steps 0 ∷ steps 1 ∷ steps 0 ∷ steps 1 ∷ steps 0 ∷ [])
-    (made ∷ ticket 0 ∷ ticket 1 ∷ place A (some 0) ∷ place A (some 0) ∷ same ∷ place S none ∷ place P none ∷ [])
+    (made ∷ ticket 0 ∷ ticket 1 ∷ at "A" (some 0) ∷ at "A" (some 0) ∷ same ∷ at "S" none ∷ at "P" none ∷ [])
     -- the session, whose reading is 4.72
     ∷ case (handOver 0x40970a3d) (handedOver 0x40970a3d)
     ∷ []

@@ -1,17 +1,10 @@
 -- To be believed. Demand 3: one claim about every list of offers, steps and collections from any fresh table.
-use Prim.Native.Nat.{ℕ, _≤_}
-use mathlib.Core.Path.{_≡_}
-use mathlib.Core.Bool.{true, false, cond}
-use mathlib.Core.List.{List, [], _∷_, _++_}
-use mathlib.Core.Logic.{_⊎_}
-use mathlib.Core.Option.{Option, some, none}
-use lib.ListN.{getElem?}
 use Rattle.alternative.specs.Guards.{guardsMatch, offersMatch}
-use Rattle.history.specs.Types.{Guard, Place, Idle, Entering, Scanning, Trying, Committed, Posting, Opening, Showing, Asleep, Waiting, Met, ProcessTable, Answer, Made, Offered, Moved, Unchanged, Collected, Runnable}
 use Rattle.process.specs.Process.{ownList, ownGuard, postedGuard}
 use Rattle.rendezvous.specs.Table.{mostProcesses, process, freshTable, hasOpenOffer}
 use Rattle.rendezvous.specs.Calls.{Quiescent}
 use Rattle.rendezvous.specs.Numbers.{Said, ticket, outcome, refusal}
+use Rattle.history.specs.Types.{ℕ, _≤_, _≡_, true, false, cond, List, [], _∷_, _++_, _⊎_, Option, some, none, getElem?, Guard, Place, Idle, Entering, Scanning, Trying, Committed, Posting, Opening, Showing, Asleep, Waiting, Met, ProcessTable, Answer, Made, Offered, Moved, Unchanged, Collected, Runnable}
 use Rattle.history.specs.Run.{Call, Offer, Step, Collect, replyTo, saidTo, tableAfter, tableAfterAll}
 use Rattle.history.specs.Book.{Transaction, Due, Rendezvous, History, emptyHistory, seen, _>>=_, messageOf, enter}
 

@@ -1,9 +1,7 @@
 -- To be believed. The lists of calls of demand 3: offers, steps and collections, each getting the table that the last one handed back.
-use Prim.Native.Nat.{ℕ}
-use mathlib.Core.List.{List, [], _∷_}
-use Rattle.history.specs.Types.{Guard, ProcessTable, Reply}
 use Rattle.rendezvous.specs.Calls.{offer, step, collect}
 use Rattle.rendezvous.specs.Numbers.{Said, said}
+use Rattle.history.specs.Types.{ℕ, List, [], _∷_, Guard, ProcessTable, Reply}
 
 pub data Call : Type 0 where
   Offer : ℕ → List Guard → Call

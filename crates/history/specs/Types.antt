@@ -1,4 +1,5 @@
--- The types that the code declares, gathered for the files here: no definition of its own.
+-- The names that the definitions here use, gathered: the libraries' and the types that the code declares. No definition of its own.
+pub use Rattle.alternative.specs.Types.{ℕ, suc, _≤_, Char, code, _≡_, Bool, true, false, cond, List, [], _∷_, _++_, _⊎_, Option, some, none, getElem?, replicate, eqb}
 pub use Rattle.alternative.specs.declared.Message.{Message}
 pub use Rattle.alternative.specs.declared.Message.the-variants.{Nothing, Whole, Reading, Limit}
 pub use Rattle.alternative.specs.declared.Action.{Action}

@@ -1,11 +1,6 @@
 -- To be believed. Document 01, "What turns a call away", refusal 7: what it asks of each record. The quoted conditions are those that fail.
-use Prim.Native.Nat.{ℕ}
-use mathlib.Core.Bool.{Bool, true, not, _&&_}
-use mathlib.Core.List.{List, [], _∷_}
-use lib.ListN.{take}
-use lib.Dec.{ltb, leb, eqb}
 use Rattle.alternative.specs.Guards.{mostGuards}
-use Rattle.process.specs.Types.{Guard, Signal, Absent, Present, Place, Idle, Entering, Scanning, Trying, Committed, Posting, Opening, Showing, Asleep, Waiting, Met, Process}
+use Rattle.process.specs.Types.{ℕ, Bool, true, not, _&&_, List, [], _∷_, take, eqb, ltb, leb, Guard, Signal, Absent, Present, Place, Idle, Entering, Scanning, Trying, Committed, Posting, Opening, Showing, Asleep, Waiting, Met, Process}
 
 -- every guard of a list passes a test
 unfoldable pub allGuards : (Guard → Bool) → List Guard → Bool

@@ -1,11 +1,32 @@
 -- To be believed. Document 01, "The desk and its tasks": the words, a record and its lists, a fresh record; and from "Calls": an open offer.
-use Prim.Native.Nat.{ℕ}
-use mathlib.Core.Bool.{Bool, true, false}
-use mathlib.Core.List.{List, []}
-use mathlib.Core.Option.{Option, some, none}
-use lib.ListN.{getD, take, replicate}
+use Prim.Native.String.{[] as end, _∷_ as _then_}
 use Rattle.alternative.specs.Guards.{mostGuards, blank}
-use Rattle.process.specs.Types.{Guard, Absent, Place, Idle, Entering, Scanning, Trying, Committed, Posting, Opening, Showing, Asleep, Waiting, Met, State, Running, Alt, Sleeping, Process}
+use Rattle.process.specs.Types.{ℕ, code, String, Bool, false, _&&_, _||_, eqb, List, [], Option, some, none, getD, take, replicate, Guard, Absent, Place, Idle, Entering, Scanning, Trying, Committed, Posting, Opening, Showing, Asleep, Waiting, Met, State, Running, Alt, Sleeping, Process}
+
+-- "I idle, E entering, M met", "A scanning, T trying, C committed, P posting, O opening, H showing", "S asleep", "W waiting"
+abbrev pub letterOf : Place → ℕ
+letterOf Idle = code "I"
+letterOf Entering = code "E"
+letterOf (Met i m) = code "M"
+letterOf (Scanning i) = code "A"
+letterOf (Trying i) = code "T"
+letterOf (Committed i j) = code "C"
+letterOf Posting = code "P"
+letterOf Opening = code "O"
+letterOf Showing = code "H"
+letterOf Asleep = code "S"
+letterOf Waiting = code "W"
+
+-- at one of the places that have these letters
+abbrev pub isOneOf : String → ℕ → Bool
+isOneOf end letter = false
+isOneOf (c then cs) letter = eqb letter (code c) || isOneOf cs letter
+
+abbrev pub isAt : String → Place → Bool
+isAt letters place = isOneOf letters (letterOf place)
+
+abbrev pub isIdle : Place → Bool
+isIdle place = eqb (letterOf place) (code "I")
 
 -- "Others read a word that follows from the place"
 abbrev pub stateOf : Place → State
@@ -48,20 +69,6 @@ ownGuard x i = getD (ownList x) i blank
 abbrev pub postedGuard : Process → ℕ → Guard
 postedGuard x i = getD (postedList x) i blank
 
--- at I
-abbrev pub isIdle : Place → Bool
-isIdle Idle = true
-isIdle Entering = false
-isIdle (Scanning i) = false
-isIdle (Trying i) = false
-isIdle (Committed i j) = false
-isIdle Posting = false
-isIdle Opening = false
-isIdle Showing = false
-isIdle Asleep = false
-isIdle Waiting = false
-isIdle (Met i m) = false
-
 -- what stands outside a table: a process at I with empty lists, which no call acts on
 abbrev pub nobody : Process
 nobody = record { place = Idle; signal = Absent; transaction = record { 0 = 0 }; accepting = false; count = 0; altcount = 0; guards = []; altlist = [] }
@@ -72,17 +79,7 @@ freshProcess = let blanks = replicate mostGuards blank in record { place = Idle;
 
 -- "On any desk, reached or damaged, the open offers are those of parties at E, A, T, P, O or S, or at H or W with wake count 0."
 abbrev pub openAt : Place → Bool → Bool
-openAt Entering accepting = true
-openAt (Scanning i) accepting = true
-openAt (Trying i) accepting = true
-openAt Posting accepting = true
-openAt Opening accepting = true
-openAt Asleep accepting = true
-openAt Showing accepting = accepting
-openAt Waiting accepting = accepting
-openAt Idle accepting = false
-openAt (Committed i j) accepting = false
-openAt (Met i m) accepting = false
+openAt place accepting = isAt "EATPOS" place || (isAt "HW" place && accepting)
 
 abbrev pub isOpen : Process → Bool
 isOpen x = openAt (x .place) (x .accepting)

@@ -1,11 +1,7 @@
 -- To be believed. Document 01, "The fifteen step rules".
-use Prim.Native.Nat.{ℕ, suc}
-use mathlib.Core.Bool.{Bool, true, false}
-use mathlib.Core.Option.{Option, some, none}
-use lib.Dec.{ltb}
 use Rattle.alternative.specs.Guards.{firstMatch, nextEnabled}
 use Rattle.alternative.specs.Exchange.{sentBy, receivedBy}
-use Rattle.process.specs.Types.{Found, At, Missing, Signal, Absent, Present, Place, Idle, Entering, Scanning, Trying, Committed, Posting, Opening, Showing, Asleep, Waiting, Met, State, Running, Alt, Sleeping, Process}
+use Rattle.process.specs.Types.{ℕ, suc, Bool, true, false, Option, some, none, ltb, Found, At, Missing, Signal, Absent, Present, Place, Idle, Entering, Scanning, Trying, Committed, Posting, Opening, Showing, Asleep, Waiting, Met, State, Running, Alt, Sleeping, Process}
 use Rattle.process.specs.Process.{stateOf, indexOf, ownList, postedList, ownGuard, postedGuard}
 
 -- What a rule changes: neither record, that of the process that steps, or both, its own and its partner's.

@@ -1,9 +1,9 @@
-// What a place says: the word that others read, whether a process is idle, and the outcome at M.
+// What a place says: its letter, the word that others read, whether a process is idle, and the outcome at M.
 use crate::Place;
 use crate::Signal;
 use crate::State;
 ghost use mathlib.Core.Path.{_≡_};
-ghost use Rattle.process.specs.Process.{stateOf, isIdle};
+ghost use Rattle.process.specs.Process.{letterOf, stateOf, isIdle};
 ghost use Rattle.process.specs.Private.{outcomeOf};
 
 impl Place {
@@ -25,22 +25,29 @@ impl Place {
         }
     }
 
+    // Document 01's letter.
+    pub fn letter(self) -> u8
+        ensures { λ r. ⌜ r ≡ letterOf self ⌝ }
+    {
+        match self {
+            Place::Idle => b'I',
+            Place::Entering => b'E',
+            Place::Met(_, _) => b'M',
+            Place::Scanning(_) => b'A',
+            Place::Trying(_) => b'T',
+            Place::Committed(_, _) => b'C',
+            Place::Posting => b'P',
+            Place::Opening => b'O',
+            Place::Showing => b'H',
+            Place::Asleep => b'S',
+            Place::Waiting => b'W',
+        }
+    }
+
     pub fn is_idle(self) -> bool
         ensures { λ r. ⌜ r ≡ isIdle self ⌝ }
     {
-        match self {
-            Place::Idle => true,
-            Place::Entering => false,
-            Place::Scanning(_) => false,
-            Place::Trying(_) => false,
-            Place::Committed(_, _) => false,
-            Place::Posting => false,
-            Place::Opening => false,
-            Place::Showing => false,
-            Place::Asleep => false,
-            Place::Waiting => false,
-            Place::Met(_, _) => false,
-        }
+        self.letter() == b'I'
     }
 
     // The outcome at M, in the form of a signal: a guard index with a message, or absent.

@@ -1,14 +1,9 @@
 -- To be believed. Document 01, "Calls": what each call answers, and the table that it hands back.
-use Prim.Native.Nat.{ℕ, zero, suc, _+_, _^_}
-use mathlib.Core.Path.{_≡_}
-use mathlib.Core.Bool.{Bool, cond}
-use mathlib.Core.List.{List}
-use lib.ListN.{set, take}
 use Rattle.alternative.specs.Guards.{slots, lent}
-use Rattle.rendezvous.specs.Types.{Guard, GuardList, TransactionId, Place, Idle, Entering, Scanning, Trying, Committed, Posting, Opening, Showing, Asleep, Waiting, Met, Process, ProcessTable, Refusal, NotMet, Verdict, Accepted, Answer, Made, Offered, Moved, Unchanged, Collected, Runnable, Reply}
-use Rattle.rendezvous.specs.Table.{process, put, freshTable}
 use Rattle.process.specs.Process.{ownGuard}
 use Rattle.process.specs.Rules.{Effect, Neither, Own, Both, atPlace, rule, partnerOf, changes}
+use Rattle.rendezvous.specs.Types.{ℕ, zero, suc, _+_, _^_, _≡_, Bool, cond, List, set, take, Guard, GuardList, TransactionId, Place, Idle, Entering, Scanning, Trying, Committed, Posting, Opening, Showing, Asleep, Waiting, Met, Process, ProcessTable, Refusal, NotMet, Verdict, Accepted, Answer, Made, Offered, Moved, Unchanged, Collected, Runnable, Reply}
+use Rattle.rendezvous.specs.Table.{process, put, freshTable}
 use Rattle.rendezvous.specs.Refusals.{createVerdict, tableVerdict, processVerdict, offerVerdict}
 
 -- A refusal "returns its number and the desk received, bit for bit."

@@ -1,8 +1,6 @@
--- To be believed. Document 01's numbers and letters for each case of an answer.
-use Prim.Native.Nat.{ℕ}
-use mathlib.Core.Option.{Option}
-use Rattle.rendezvous.specs.Types.{Message, Place, Idle, Entering, Scanning, Trying, Committed, Posting, Opening, Showing, Asleep, Waiting, Met, Refusal, ProcessCount, NotWellFormed, NoSuchProcess, GuardCount, Partner, NotANumber, NoneEnabled, NotIdle, LastTransaction, NotMet, Answer, Made, Offered, Moved, Unchanged, Collected, Runnable}
-use Rattle.process.specs.Process.{indexOf}
+-- To be believed. Document 01's numbers and values for each case of an answer.
+use Rattle.process.specs.Process.{letterOf, indexOf}
+use Rattle.rendezvous.specs.Types.{ℕ, Option, Message, Refusal, ProcessCount, NotWellFormed, NoSuchProcess, GuardCount, Partner, NotANumber, NoneEnabled, NotIdle, LastTransaction, NotMet, Answer, Made, Offered, Moved, Unchanged, Collected, Runnable}
 
 -- "What turns a call away"
 abbrev pub refusalNumber : Refusal → ℕ
@@ -17,27 +15,11 @@ refusalNumber NotIdle = 11
 refusalNumber LastTransaction = 12
 refusalNumber NotMet = 13
 
-pub data Letter : Type 0 where
-  I E A T C P O H S W M : Letter
-
-abbrev pub letterOf : Place → Letter
-letterOf Idle = I
-letterOf Entering = E
-letterOf (Scanning i) = A
-letterOf (Trying i) = T
-letterOf (Committed i j) = C
-letterOf Posting = P
-letterOf Opening = O
-letterOf Showing = H
-letterOf Asleep = S
-letterOf Waiting = W
-letterOf (Met i m) = M
-
 -- What an answer says: a place by its letter, "with the guard index at A, T and C"; an outcome by guard index, partner and message.
 pub data Said : Type 0 where
   made : Said
   ticket : ℕ → Said
-  place : Letter → Option ℕ → Said
+  place : ℕ → Option ℕ → Said
   same : Said
   outcome : ℕ → ℕ → Message → Said
   movers : ℕ → Said

@@ -1,14 +1,9 @@
 -- To be believed. Document 01, "What turns a call away": what each call is tested for, in order. 13, of a collection alone, is in Calls.
-use Prim.Native.Nat.{ℕ}
-use mathlib.Core.Bool.{Bool, true, false, not, _&&_}
-use mathlib.Core.List.{List, [], _∷_}
-use lib.ListN.{take}
-use lib.Dec.{ltb, leb}
 use Rattle.alternative.specs.Guards.{mostGuards, anyGuard}
 use Rattle.alternative.specs.Exchange.{actionHoldsNan}
 use Rattle.process.specs.Process.{isIdle}
 use Rattle.process.specs.Fits.{partnerFits}
-use Rattle.rendezvous.specs.Types.{Guard, GuardList, TransactionId, Place, ProcessTable, Refusal, ProcessCount, NotWellFormed, NoSuchProcess, GuardCount, Partner, NotANumber, NoneEnabled, NotIdle, LastTransaction, Verdict, Accepted}
+use Rattle.rendezvous.specs.Types.{ℕ, Bool, true, false, not, _&&_, List, [], _∷_, take, ltb, leb, Guard, GuardList, TransactionId, Place, ProcessTable, Refusal, ProcessCount, NotWellFormed, NoSuchProcess, GuardCount, Partner, NotANumber, NoneEnabled, NotIdle, LastTransaction, Verdict, Accepted}
 use Rattle.rendezvous.specs.Table.{lastTransaction, process}
 use Rattle.rendezvous.specs.WellFormed.{countFits, wellFormed}
 

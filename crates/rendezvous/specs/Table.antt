@@ -1,10 +1,6 @@
 -- To be believed. Document 01, "The desk and its tasks": the records of a table, a fresh one; and from "Calls": open offers.
-use Prim.Native.Nat.{ℕ}
-use mathlib.Core.Bool.{Bool, _&&_}
-use lib.ListN.{getD, set, replicate}
-use lib.Dec.{ltb}
 use Rattle.process.specs.Process.{nobody, freshProcess, isOpen}
-use Rattle.rendezvous.specs.Types.{Process, ProcessTable}
+use Rattle.rendezvous.specs.Types.{ℕ, Bool, _&&_, replicate, getD, set, ltb, Process, ProcessTable}
 
 -- the most processes, and the ticket that is never given out
 abbrev pub mostProcesses : ℕ

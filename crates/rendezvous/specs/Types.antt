@@ -1,4 +1,5 @@
--- The types that the code declares, gathered for the files here: no definition of its own.
+-- The names that the definitions here use, gathered: the libraries' and the types that the code declares. No definition of its own.
+pub use Rattle.alternative.specs.Types.{ℕ, zero, suc, _+_, _^_, _≡_, Bool, true, false, not, _&&_, cond, List, [], _∷_, Option, take, replicate, getD, set, ltb, leb}
 pub use Rattle.alternative.specs.declared.Message.{Message}
 pub use Rattle.alternative.specs.declared.Guard.{Guard}
 pub use Rattle.alternative.specs.declared.GuardList.{GuardList}

@@ -1,10 +1,7 @@
 -- To be believed. Document 01, "What turns a call away", refusal 7: it is given exactly where `wellFormed` is false.
-use Prim.Native.Nat.{ℕ, zero, suc}
-use mathlib.Core.Bool.{Bool, true, _&&_}
-use lib.Dec.{leb}
 use Rattle.process.specs.Rules.{partnerOf}
 use Rattle.process.specs.Fits.{processFits}
-use Rattle.rendezvous.specs.Types.{ProcessTable}
+use Rattle.rendezvous.specs.Types.{ℕ, zero, suc, Bool, true, _&&_, leb, ProcessTable}
 use Rattle.rendezvous.specs.Table.{mostProcesses, process}
 
 -- every number below n passes a test
