@@ -1,15 +1,10 @@
 -- The names that the definitions here use, gathered: the libraries' and the types that the code declares. No definition of its own.
 pub use Rattle.alternative.specs.Types.{ℕ, suc, _≤_, Char, code, _≡_, Bool, true, false, cond, List, [], _∷_, _++_, _⊎_, Option, some, none, getElem?, replicate, eqb}
-pub use Rattle.alternative.specs.declared.Message.{Message}
-pub use Rattle.alternative.specs.declared.Message.the-variants.{Nothing, Whole, Reading, Limit}
-pub use Rattle.alternative.specs.declared.Action.{Action}
+pub use Rattle.alternative.specs.declared.{Message.Message, Action.Action, Guard.Guard, Found.Found}
+pub use Rattle.alternative.specs.declared.Message.the-variants.{Nothing, Reading}
 pub use Rattle.alternative.specs.declared.Action.the-variants.{Receive, Send}
-pub use Rattle.alternative.specs.declared.Guard.{Guard}
-pub use Rattle.alternative.specs.declared.Found.{Found}
 pub use Rattle.alternative.specs.declared.Found.the-variants.{At, Missing}
 pub use Rattle.process.specs.declared.Place.{Place}
 pub use Rattle.process.specs.declared.Place.the-variants.{Idle, Entering, Scanning, Trying, Committed, Posting, Opening, Showing, Asleep, Waiting, Met}
-pub use Rattle.rendezvous.specs.declared.ProcessTable.{ProcessTable}
-pub use Rattle.rendezvous.specs.declared.Answer.{Answer}
+pub use Rattle.rendezvous.specs.declared.{ProcessTable.ProcessTable, Answer.Answer, Reply.Reply}
 pub use Rattle.rendezvous.specs.declared.Answer.the-variants.{Made, Offered, Moved, Unchanged, Collected, Runnable}
-pub use Rattle.rendezvous.specs.declared.Reply.{Reply}

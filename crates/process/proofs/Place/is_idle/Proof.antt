@@ -8,11 +8,9 @@ use Rattle.process.proofs.Place.is_idle.Reads as reads
 use Rattle.process.proofs.Place.is_idle.Lts as lts
 use Rattle.process.proofs.Place.letter.Reads as letter-reads
 
--- src/places.rt:50:9
 letter-requires : tie.Need-letter-requires
 letter-requires c κs = search needs
 
--- src/places.rt:47:5
 returns : tie.Need-returns
 returns c = ap (λ (letter : ℕ). eqb letter 73) (c .letter .ensures)
 

@@ -5,91 +5,69 @@ use Rattle.process.proofs.Place.outcome.Tie as tie
 use Rattle.process.proofs.Place.outcome.Reads as reads
 use Rattle.process.proofs.Place.outcome.Lts as lts
 
--- src/collect.rt:16:24
 enum-known-self : tie.Need-enum-known-self
 enum-known-self c = search needs
 
--- src/collect.rt:17:28
 enum-told : tie.Need-enum-told
 enum-told c = search needs
 
--- src/collect.rt:18:32
 enum-told-2 : tie.Need-enum-told-2
 enum-told-2 c = search needs
 
--- src/collect.rt:19:35
 enum-told-3 : tie.Need-enum-told-3
 enum-told-3 c = search needs
 
--- src/collect.rt:20:33
 enum-told-4 : tie.Need-enum-told-4
 enum-told-4 c = search needs
 
--- src/collect.rt:21:39
 enum-told-5 : tie.Need-enum-told-5
 enum-told-5 c = search needs
 
--- src/collect.rt:22:31
 enum-told-6 : tie.Need-enum-told-6
 enum-told-6 c = search needs
 
--- src/collect.rt:23:31
 enum-told-7 : tie.Need-enum-told-7
 enum-told-7 c = search needs
 
--- src/collect.rt:24:31
 enum-told-8 : tie.Need-enum-told-8
 enum-told-8 c = search needs
 
--- src/collect.rt:25:30
 enum-told-9 : tie.Need-enum-told-9
 enum-told-9 c = search needs
 
--- src/collect.rt:26:31
 enum-told-10 : tie.Need-enum-told-10
 enum-told-10 c = search needs
 
--- src/collect.rt:12:5
 returns : tie.Need-returns
 returns c = rw (c .before .self .given .1)
 
--- src/collect.rt:12:5
 returns-2 : tie.Need-returns-2
 returns-2 c = search needs
 
--- src/collect.rt:12:5
 returns-3 : tie.Need-returns-3
 returns-3 c = search needs
 
--- src/collect.rt:12:5
 returns-4 : tie.Need-returns-4
 returns-4 c = search needs
 
--- src/collect.rt:12:5
 returns-5 : tie.Need-returns-5
 returns-5 c = search needs
 
--- src/collect.rt:12:5
 returns-6 : tie.Need-returns-6
 returns-6 c = search needs
 
--- src/collect.rt:12:5
 returns-7 : tie.Need-returns-7
 returns-7 c = search needs
 
--- src/collect.rt:12:5
 returns-8 : tie.Need-returns-8
 returns-8 c = search needs
 
--- src/collect.rt:12:5
 returns-9 : tie.Need-returns-9
 returns-9 c = search needs
 
--- src/collect.rt:12:5
 returns-10 : tie.Need-returns-10
 returns-10 c = search needs
 
--- src/collect.rt:12:5
 returns-11 : tie.Need-returns-11
 returns-11 c = search needs
 
