@@ -1,0 +1,8 @@
+pub mod Options
+pub mod Kept
+pub mod Decimals
+pub mod Hexadecimals
+pub mod Integers
+pub mod Printed
+pub mod RoundTrips
+pub mod Claimed

@@ -1,0 +1,84 @@
+-- What the printer needs of the texts of numbers.
+use Prim.Native.Nat.{ℕ, zero, suc, _+_, _-_, _/_, _%_, _<_, _≤_}
+use Prim.Native.Char.{code}
+use mathlib.Core.Path.{_≡_, refl, ap}
+use mathlib.Core.Bool.{Bool, true, false, cond}
+use mathlib.Core.List.{[], _∷_, _++_}
+use native.Mathlib.Omega.{arith}
+use borrow.Author.Tests.{lt-ltb, le-ltb}
+use lib.Dec.{ltb}
+use lib.IntN.{ℤ, pos, natAbs}
+use lib.ListN.{length, length-append}
+use lib.Signed.{ltZ}
+use Rattle.text.specs.Writing.{decimalUpTo, decimalText, wholeText, hexGlyph, hexUpTo, hexText}
+
+-- a decimal digit is written like a hexadecimal one
+pub glyph-decimal : (d : ℕ) → d < 10 → hexGlyph d ≡ code "0" + d
+glyph-decimal d h = rw (lt-ltb d 10 h)
+
+pub glyph-letter : (d : ℕ) → 10 ≤ d → hexGlyph d ≡ code "a" + (d - 10)
+glyph-letter d h = rw (le-ltb d 10 h)
+
+pub decimal-last : (k n : ℕ) → k ≡ 0 → decimalUpTo k n ≡ (code "0" + n % 10) ∷ []
+unfolding decimalUpTo
+decimal-last k n e = rw e refl
+
+pub decimal-small : (k n : ℕ) → (k ≡ 0 → ⊥) → n < 10 → decimalUpTo k n ≡ (code "0" + n) ∷ []
+unfolding decimalUpTo
+decimal-small zero n e h = absurd (e refl)
+decimal-small (suc k) n e h = rw (lt-ltb n 10 h) refl
+
+less : (k : ℕ) → k ≡ suc k - 1
+less k = omega arith
+
+pub decimal-large : (k n : ℕ) → (k ≡ 0 → ⊥) → 10 ≤ n → decimalUpTo k n ≡ decimalUpTo (k - 1) (n / 10) ++ (code "0" + n % 10) ∷ []
+unfolding decimalUpTo
+decimal-large zero n e h = absurd (e refl)
+decimal-large (suc k) n e h = rw (le-ltb n 10 h) (ap (λ (j : ℕ). decimalUpTo j (n / 10) ++ (code "0" + n % 10) ∷ []) (less k))
+
+pub hex-none : (k n : ℕ) → k ≡ 0 → hexUpTo k n ≡ []
+unfolding hexUpTo
+hex-none k n e = rw e refl
+
+pub hex-last : (k n : ℕ) → (k ≡ 0 → ⊥) → hexUpTo k n ≡ hexUpTo (k - 1) (n / 16) ++ hexGlyph (n % 16) ∷ []
+unfolding hexUpTo
+hex-last zero n e = absurd (e refl)
+hex-last (suc k) n e = ap (λ (j : ℕ). hexUpTo j (n / 16) ++ hexGlyph (n % 16) ∷ []) (less k)
+
+pub whole-below : (x : ℤ) → ltZ x (pos 0) ≡ true → wholeText x ≡ code "-" ∷ decimalText (natAbs x)
+unfolding wholeText
+whole-below x e = ap (λ (t : Bool). cond t (code "-" ∷ decimalText (natAbs x)) (decimalText (natAbs x))) e
+
+pub whole-above : (x : ℤ) → ltZ x (pos 0) ≡ false → wholeText x ≡ decimalText (natAbs x)
+unfolding wholeText
+whole-above x e = ap (λ (t : Bool). cond t (code "-" ∷ decimalText (natAbs x)) (decimalText (natAbs x))) e
+
+-- ---- how long the texts are
+decimal-length : (k n : ℕ) → length (decimalUpTo k n) ≤ k + 1
+unfolding decimalUpTo
+decimal-length zero n = omega arith
+decimal-length (suc k) n = at (ltb n 10) (decimal-length k (n / 10))
+  where
+    at : (t : Bool) → length (decimalUpTo k (n / 10)) ≤ k + 1
+        → length (cond t ((code "0" + n) ∷ []) (decimalUpTo k (n / 10) ++ (code "0" + n % 10) ∷ [])) ≤ suc k + 1
+    at true h = omega arith
+    at false h = omega (arith, length-append (decimalUpTo k (n / 10)) ((code "0" + n % 10) ∷ []))
+
+pub decimal-text-length : (n : ℕ) → length (decimalText n) ≤ 10
+decimal-text-length n = decimal-length 9 n
+
+pub whole-text-length : (x : ℤ) → length (wholeText x) ≤ 11
+unfolding wholeText
+whole-text-length x = at (ltZ x (pos 0))
+  where
+    at : (t : Bool) → length (cond t (code "-" ∷ decimalText (natAbs x)) (decimalText (natAbs x))) ≤ 11
+    at true = omega (arith, decimal-text-length (natAbs x))
+    at false = omega (arith, decimal-text-length (natAbs x))
+
+hex-length : (k n : ℕ) → length (hexUpTo k n) ≡ k
+unfolding hexUpTo
+hex-length zero n = refl
+hex-length (suc k) n = omega (arith, length-append (hexUpTo k (n / 16)) (hexGlyph (n % 16) ∷ []), hex-length k (n / 16))
+
+pub hex-text-length : (n : ℕ) → length (hexText n) ≡ 8
+hex-text-length n = hex-length 8 n

@@ -1,0 +1,66 @@
+-- To be believed. Document 01, "The script program": the ends of its numbers, its hexadecimal digits, and that what is printed is read back.
+-- The functions `edge_cases` and `read_back` carry these claims.
+use Prim.Native.Nat.{ℕ, zero, suc, _<_, _≤_}
+use mathlib.Core.Path.{_≡_}
+use mathlib.Core.Bool.{cond}
+use mathlib.Core.List.{List, [], _∷_, map}
+use mathlib.Core.Option.{Option, some, none}
+use lib.Dec.{eqb}
+use lib.IntN.{ℤ, pos, negℤ}
+use mir.Syntax.{w32}
+use mir.Val.{SFits}
+use Rattle.text.specs.Ascii.{bytes}
+use Rattle.text.specs.Reading.{byteNumber, whole, hexDigit, hexWord}
+use Rattle.text.specs.Writing.{decimalText, wholeText, hexGlyph, hexText}
+
+-- k numbers from n on
+unfoldable pub numbersFrom : ℕ → ℕ → List ℕ
+numbersFrom n zero = []
+numbersFrom n (suc k) = n ∷ numbersFrom (suc n) k
+
+-- where b stands in a list whose places are counted from i
+unfoldable pub placeFrom : ℕ → List ℕ → ℕ → Option ℕ
+placeFrom i [] b = none
+placeFrom i (c ∷ cs) b = cond (eqb b c) (some i) (placeFrom (suc i) cs b)
+
+abbrev pub hexDigits : List ℕ
+hexDigits = bytes "0123456789abcdef"
+
+pub record EdgeCases : Type 0 where
+  -- "decimal, 0 to 255, no leading zeros"
+  pub zeroRead : byteNumber (bytes "0") ≡ some 0
+  pub lastRead : byteNumber (bytes "255") ≡ some 255
+  pub tooLarge : byteNumber (bytes "256") ≡ none
+  pub noDigits : byteNumber (bytes "") ≡ none
+  pub zerosInFront : byteNumber (bytes "007") ≡ none
+  pub twoZeros : byteNumber (bytes "00") ≡ none
+  pub minusByte : byteNumber (bytes "-1") ≡ none
+  -- "a decimal of 32 bits signed, with `-` if negative, without `+`, leading zeros or `-0`"
+  pub wholeZero : whole (bytes "0") ≡ some (pos 0)
+  pub largest : whole (bytes "2147483647") ≡ some (pos 2147483647)
+  pub aboveLargest : whole (bytes "2147483648") ≡ none
+  pub least : whole (bytes "-2147483648") ≡ some (negℤ (pos 2147483648))
+  pub belowLeast : whole (bytes "-2147483649") ≡ none
+  pub minusZero : whole (bytes "-0") ≡ none
+  pub minusAlone : whole (bytes "-") ≡ none
+  pub wholeEmpty : whole (bytes "") ≡ none
+  pub wholeZeros : whole (bytes "007") ≡ none
+  pub minusZeros : whole (bytes "-01") ≡ none
+  pub plusSign : whole (bytes "+1") ≡ none
+  pub leastPrinted : wholeText (negℤ (pos 2147483648)) ≡ bytes "-2147483648"
+  -- "eight lower-case hexadecimal digits"
+  pub hexRead : hexWord (bytes "40970a3d") ≡ some 0x40970a3d
+  pub hexLargest : hexWord (bytes "ffffffff") ≡ some 4294967295
+  pub upperCase : hexWord (bytes "40970A3d") ≡ none
+  pub sevenDigits : hexWord (bytes "4097a3d") ≡ none
+  pub nineDigits : hexWord (bytes "040970a3d") ≡ none
+  pub hexPrinted : hexText 0 ≡ bytes "00000000"
+  -- each of the 256 bytes gives its value or is no digit, and each value gives its digit
+  pub digitValues : map hexDigit (numbersFrom 0 256) ≡ map (placeFrom 0 hexDigits) (numbersFrom 0 256)
+  pub valueDigits : map hexGlyph (numbersFrom 0 16) ≡ hexDigits
+
+-- what is printed is read back
+pub record ReadBack : Type 0 where
+  pub byteNumbers : (n : ℕ) → n ≤ 255 → byteNumber (decimalText n) ≡ some n
+  pub wholes : (x : ℤ) → SFits w32 x → whole (wholeText x) ≡ some x
+  pub hexWords : (n : ℕ) → n < 4294967296 → hexWord (hexText n) ≡ some n

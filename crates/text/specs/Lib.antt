@@ -1,0 +1,6 @@
+pub mod Types
+pub mod Ascii
+pub mod Reading
+pub mod Writing
+pub mod Claims
+pub mod Private

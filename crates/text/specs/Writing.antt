@@ -1,0 +1,44 @@
+-- To be believed. Document 01, "The script program": numbers as the program prints them.
+use Prim.Native.Nat.{ℕ, zero, suc, _+_, _-_, _/_, _%_}
+use Prim.Native.Char.{code}
+use mathlib.Core.Bool.{cond}
+use mathlib.Core.List.{List, [], _∷_, _++_}
+use lib.Dec.{ltb}
+use lib.IntN.{ℤ, pos, natAbs}
+use lib.ListN.{take}
+use lib.Signed.{ltZ}
+use Rattle.text.specs.declared.Text.{Text}
+
+-- the bytes that a text holds
+unfoldable pub shown : Text → List ℕ
+shown t = take (t .length) (t .bytes)
+
+-- what a text keeps of a list of bytes: the first 64
+unfoldable pub kept : List ℕ → List ℕ
+kept bs = take 64 bs
+
+-- n in decimal without leading zeros; k is one less than the most digits that are written
+unfoldable pub decimalUpTo : ℕ → ℕ → List ℕ
+decimalUpTo zero n = (code "0" + n % 10) ∷ []
+decimalUpTo (suc k) n = cond (ltb n 10) ((code "0" + n) ∷ []) (decimalUpTo k (n / 10) ++ (code "0" + n % 10) ∷ [])
+
+-- ten digits are enough for each number of 32 bits
+abbrev pub decimalText : ℕ → List ℕ
+decimalText n = decimalUpTo 9 n
+
+-- "with `-` if negative, without `+`"
+unfoldable pub wholeText : ℤ → List ℕ
+wholeText x = cond (ltZ x (pos 0)) (code "-" ∷ decimalText (natAbs x)) (decimalText (natAbs x))
+
+-- a digit below 16
+abbrev pub hexGlyph : ℕ → ℕ
+hexGlyph d = cond (ltb d 10) (code "0" + d) (code "a" + (d - 10))
+
+-- the last k hexadecimal digits of n
+unfoldable pub hexUpTo : ℕ → ℕ → List ℕ
+hexUpTo zero n = []
+hexUpTo (suc k) n = hexUpTo k (n / 16) ++ hexGlyph (n % 16) ∷ []
+
+-- "eight lower-case hexadecimal digits"
+abbrev pub hexText : ℕ → List ℕ
+hexText n = hexUpTo 8 n

@@ -1,0 +1,39 @@
+// Numbers as bytes: what a script line spells, and a short text to print.
+ghost use Rattle.text.specs.Claims.{EdgeCases, ReadBack};
+
+mod reading;
+mod signs;
+mod writing;
+
+pub use reading::is_digit;
+pub use reading::read_byte_number;
+pub use reading::read_hex_word;
+pub use reading::read_whole;
+
+// A number of a script line, or none.
+pub enum Number {
+    Malformed,
+    Value(u32),
+}
+
+// A signed number of a script line, or none.
+pub enum Whole {
+    Malformed,
+    Value(i32),
+}
+
+// The first `length` bytes of `bytes`: an output line while it is put together. What goes beyond 64 bytes is dropped.
+pub struct Text {
+    pub length: usize,
+    pub bytes: [u8; 64],
+}
+
+// Carries the edge cases: at the ends of document 01's numbers the definitions say what it says.
+pub fn edge_cases()
+    ensures { λ _. ⌜ EdgeCases ⌝ }
+{}
+
+// Carries that each number that is printed is read back.
+pub fn read_back()
+    ensures { λ _. ⌜ ReadBack ⌝ }
+{}
