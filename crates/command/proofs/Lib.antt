@@ -1,0 +1,7 @@
+pub mod Numbers
+pub mod Leading
+pub mod Heads
+pub mod Cuts
+pub mod GuardFields
+pub mod Growing
+pub mod Letters

@@ -1,0 +1,18 @@
+-- Each case by computation.
+use mathlib.Core.Path.{refl}
+use Rattle.text.specs.Ascii.{bytes}
+use Rattle.text.specs.Reading.{decimalFrom, decimal, byteNumber, whole, hexDigit, hexFrom, hexWord}
+use Rattle.command.specs.Commands.{fields, wholeOf, readingOf, limitOf, messageBy, messageOf, sendOf, actionBy, actionOf, leading, guardFrom, guardOf, guardsOf, numberOf, offerOf, numbered, byLetter, commandIn, commandOf}
+use Rattle.command.proofs.line_cases.Statement.{statement}
+use Rattle.command.proofs.line_cases.Tie as tie
+
+returns : tie.Need-returns
+unfolding bytes decimalFrom decimal byteNumber whole hexDigit hexFrom hexWord fields wholeOf readingOf limitOf messageBy messageOf sendOf actionBy actionOf leading guardFrom guardOf guardsOf numberOf offerOf numbered byLetter commandIn commandOf
+returns c =
+    record {
+      commands = (refl, refl, refl, refl, refl, refl, refl, refl, refl, refl);
+      malformed = (refl, refl, refl, refl, refl, refl, refl, refl, refl, refl, refl, refl, refl, refl, refl, refl, refl, refl);
+    }
+
+pub line-cases-spec : {M : Type 1} → statement M
+line-cases-spec = tie.close (tie.spec returns)

@@ -1,0 +1,55 @@
+-- Not to be believed: forms that inner contracts cite; no contract of a public function does.
+use Prim.Native.Nat.{ℕ}
+use Prim.Native.Char.{code}
+use mathlib.Core.Bool.{Bool, not}
+use mathlib.Core.List.{List, [], _∷_, _++_}
+use mathlib.Core.Path.{_≡_}
+use mathlib.Core.Option.{Option, some, none}
+use lib.Dec.{eqb}
+use Rattle.alternative.specs.Guards.{lent}
+use Rattle.command.specs.Types.{Message, Action, Guard, GuardList, Kind, Parsed, ReadNumber, ReadMessage, ReadAction, ReadGuard}
+use Rattle.command.specs.Commands.{fields, leading}
+use Rattle.command.specs.Form.{plain}
+
+-- a command of one number
+abbrev pub asNumbered : Kind → Option ℕ → Parsed
+asNumbered kind none = plain Kind.Malformed 0
+asNumbered kind (some n) = plain kind n
+
+-- an offer by p
+abbrev pub asOffer : ℕ → Option (List Guard) → Parsed
+asOffer p none = plain Kind.Malformed 0
+asOffer p (some gs) = record { kind = Kind.Offer; number = p; list = lent gs }
+
+-- what was read, if anything
+abbrev pub numberRead : ReadNumber → Option ℕ
+numberRead ReadNumber.Malformed = none
+numberRead (ReadNumber.Value n) = some n
+
+abbrev pub messageRead : ReadMessage → Option Message
+messageRead ReadMessage.Malformed = none
+messageRead (ReadMessage.Value m) = some m
+
+abbrev pub actionRead : ReadAction → Option Action
+actionRead ReadAction.Malformed = none
+actionRead (ReadAction.Value a) = some a
+
+abbrev pub guardRead : ReadGuard → Option Guard
+guardRead ReadGuard.Malformed = none
+guardRead (ReadGuard.Value g) = some g
+
+abbrev pub notSpace : ℕ → Bool
+notSpace b = not (eqb b (code " "))
+
+-- how many bytes stand before the first space
+abbrev pub fieldLength : List ℕ → ℕ
+fieldLength bs = leading notSpace bs
+
+-- the fields after a field's end: none at the end of the line, else those after the space
+unfoldable pub fieldsAfter : List ℕ → List (List ℕ)
+fieldsAfter [] = []
+fieldsAfter (b ∷ bs) = fields bs
+
+-- a list lent by its task, with one guard more
+abbrev pub Grown : GuardList → Guard → GuardList → Type 0
+Grown list g longer = (gs : List Guard) → list ≡ lent gs → longer ≡ lent (gs ++ g ∷ [])

@@ -1,0 +1,13 @@
+-- The types that the code declares, gathered for the files here: no definition of its own.
+pub use Rattle.alternative.specs.declared.Message.{Message}
+pub use Rattle.alternative.specs.declared.Message.the-variants.{Nothing, Whole, Reading, Limit}
+pub use Rattle.alternative.specs.declared.Action.{Action}
+pub use Rattle.alternative.specs.declared.Action.the-variants.{Receive, Send}
+pub use Rattle.alternative.specs.declared.Guard.{Guard}
+pub use Rattle.alternative.specs.declared.GuardList.{GuardList}
+pub use Rattle.command.specs.declared.Kind.{Kind}
+pub use Rattle.command.specs.declared.Parsed.{Parsed}
+pub use Rattle.command.specs.declared.ReadNumber.{ReadNumber}
+pub use Rattle.command.specs.declared.ReadMessage.{ReadMessage}
+pub use Rattle.command.specs.declared.ReadAction.{ReadAction}
+pub use Rattle.command.specs.declared.ReadGuard.{ReadGuard}

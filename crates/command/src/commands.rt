@@ -1,0 +1,73 @@
+// A whole line: its letter, and what stands after it.
+use crate::Kind;
+use crate::Parsed;
+use crate::ReadNumber;
+use crate::fields::field_length;
+use crate::fields::read_number;
+use crate::offers::parse_offer;
+use crate::plain_command;
+ghost use mathlib.Core.Path.{_≡_};
+ghost use mathlib.Core.List.{[]};
+ghost use Rattle.command.specs.Commands.{fields, numberOf, byLetter, commandOf};
+ghost use Rattle.command.specs.Form.{asParsed};
+ghost use Rattle.command.specs.Private.{asNumbered};
+
+// A command of one number, which is the only field after the letter.
+fn parse_numbered(kind: Kind, s: &[u8]) -> Parsed
+    ensures { λ r. ⌜ r ≡ asNumbered kind (numberOf (fields (now (s .entry)))) ⌝ }
+{
+    if field_length(s) < s.len() {
+        return plain_command(Kind::Malformed, 0);
+    }
+    match read_number(s) {
+        ReadNumber::Malformed => plain_command(Kind::Malformed, 0),
+        ReadNumber::Value(n) => plain_command(kind, n),
+    }
+}
+
+// A letter with no fields after it: only the movers have none.
+fn parse_alone(letter: u8) -> Parsed
+    ensures { λ r. ⌜ r ≡ asParsed (byLetter letter []) ⌝ }
+{
+    if letter == b'm' {
+        return plain_command(Kind::Movers, 0);
+    }
+    plain_command(Kind::Malformed, 0)
+}
+
+// A letter, and the bytes after the space that follows it: one field or more.
+fn parse_with(letter: u8, s: &[u8]) -> Parsed
+    ensures { λ r. ⌜ r ≡ asParsed (byLetter letter (fields (now (s .entry)))) ⌝ }
+{
+    if letter == b'n' {
+        return parse_numbered(Kind::New, s);
+    }
+    if letter == b'o' {
+        return parse_offer(s);
+    }
+    if letter == b's' {
+        return parse_numbered(Kind::Step, s);
+    }
+    if letter == b'c' {
+        return parse_numbered(Kind::Collect, s);
+    }
+    plain_command(Kind::Malformed, 0)
+}
+
+// The command that the bytes of a line write.
+pub fn parse(line: &[u8]) -> Parsed
+    ensures { λ r. ⌜ r ≡ asParsed (commandOf (now (line .entry))) ⌝ }
+{
+    let n = line.len();
+    if n == 0 {
+        return plain_command(Kind::Malformed, 0);
+    }
+    let letter = line[0];
+    if n == 1 {
+        return parse_alone(letter);
+    }
+    if line[1] == b' ' {
+        return parse_with(letter, &line[2..]);
+    }
+    plain_command(Kind::Malformed, 0)
+}

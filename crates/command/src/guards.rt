@@ -1,0 +1,93 @@
+// A guard of an offer: whether it is enabled, its partner, and its action.
+use crate::ReadAction;
+use crate::ReadGuard;
+use crate::ReadMessage;
+use crate::ReadNumber;
+use crate::fields::read_number;
+use crate::messages::read_message;
+use alternative::Action;
+use alternative::Guard;
+use text::is_digit;
+ghost use mathlib.Core.Path.{_≡_};
+ghost use Rattle.command.specs.Commands.{sendOf, actionOf, digitCount, guardFrom, guardOf};
+ghost use Rattle.command.specs.Private.{actionRead, guardRead};
+
+// The bytes after a `!`.
+fn send_action(s: &[u8]) -> ReadAction
+    ensures { λ r. ⌜ actionRead r ≡ sendOf (now (s .entry)) ⌝ }
+{
+    match read_message(s) {
+        ReadMessage::Malformed => ReadAction::Malformed,
+        ReadMessage::Value(m) => ReadAction::Value(Action::Send(m)),
+    }
+}
+
+// An action by its sign.
+fn read_action(s: &[u8]) -> ReadAction
+    ensures { λ r. ⌜ actionRead r ≡ actionOf (now (s .entry)) ⌝ }
+{
+    let n = s.len();
+    if n == 0 {
+        return ReadAction::Malformed;
+    }
+    let sign = s[0];
+    if sign == b'?' {
+        if n == 1 {
+            return ReadAction::Value(Action::Receive);
+        }
+        return ReadAction::Malformed;
+    }
+    if sign == b'!' {
+        return send_action(&s[1..]);
+    }
+    ReadAction::Malformed
+}
+
+// How many digits the bytes start with.
+fn digit_count(s: &[u8]) -> usize
+    ensures { λ r. ⌜ r ≡ digitCount (now (s .entry)) ⌝ }
+{
+    let mut i = 0;
+    while i < s.len() {
+        let b = s[i];
+        if !is_digit(b) {
+            return i;
+        }
+        i += 1;
+    }
+    i
+}
+
+// A guard without its `-`: digits, and the action after them.
+fn guard_from(enabled: bool, s: &[u8]) -> ReadGuard
+    ensures { λ r. ⌜ guardRead r ≡ guardFrom enabled (now (s .entry)) ⌝ }
+{
+    let digits = digit_count(s);
+    match read_number(&s[..digits]) {
+        ReadNumber::Malformed => ReadGuard::Malformed,
+        ReadNumber::Value(partner) => match read_action(&s[digits..]) {
+            ReadAction::Malformed => ReadGuard::Malformed,
+            ReadAction::Value(action) => {
+                let guard = Guard {
+                    enabled: enabled,
+                    partner: partner,
+                    action: action,
+                };
+                ReadGuard::Value(guard)
+            }
+        },
+    }
+}
+
+// A guard: all bytes of its field.
+pub fn read_guard(s: &[u8]) -> ReadGuard
+    ensures { λ r. ⌜ guardRead r ≡ guardOf (now (s .entry)) ⌝ }
+{
+    if s.len() == 0 {
+        return ReadGuard::Malformed;
+    }
+    if s[0] == b'-' {
+        return guard_from(false, &s[1..]);
+    }
+    guard_from(true, s)
+}

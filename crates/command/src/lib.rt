@@ -1,0 +1,74 @@
+// One line of a script: the command that its bytes write, or malformed.
+use alternative::Action;
+use alternative::Guard;
+use alternative::GuardList;
+use alternative::Message;
+use lists::no_guards;
+ghost use mathlib.Core.Path.{_≡_};
+ghost use Rattle.command.specs.Cases.{LineCases};
+ghost use Rattle.command.specs.Form.{plain};
+
+mod commands;
+mod fields;
+mod guards;
+mod lists;
+mod messages;
+mod offers;
+
+pub use commands::parse;
+
+// Which command a line writes.
+pub enum Kind {
+    Malformed,
+    New,
+    Offer,
+    Step,
+    Collect,
+    Movers,
+}
+
+// A command: its kind, its number, N or P, and the guards of an offer. What a kind does not have is 0, or an empty list.
+// It is a struct and no enum with the parts of each kind, since a list of guards is an array.
+pub struct Parsed {
+    pub kind: Kind,
+    pub number: u8,
+    pub list: GuardList,
+}
+
+// A command without guards.
+fn plain_command(kind: Kind, number: u8) -> Parsed
+    ensures { λ r. ⌜ r ≡ plain kind number ⌝ }
+{
+    let list = no_guards();
+    Parsed {
+        kind: kind,
+        number: number,
+        list: list,
+    }
+}
+
+// What a part of a line writes, or malformed: a number, a message, an action, a guard.
+pub enum ReadNumber {
+    Malformed,
+    Value(u8),
+}
+
+pub enum ReadMessage {
+    Malformed,
+    Value(Message),
+}
+
+pub enum ReadAction {
+    Malformed,
+    Value(Action),
+}
+
+pub enum ReadGuard {
+    Malformed,
+    Value(Guard),
+}
+
+// Carries the cases: of some lines the definitions say what document 01 says.
+pub fn line_cases()
+    ensures { λ _. ⌜ LineCases ⌝ }
+{}

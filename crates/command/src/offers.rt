@@ -1,0 +1,52 @@
+// An offer: its process, and its guards, one in each field.
+use crate::Kind;
+use crate::Parsed;
+use crate::ReadGuard;
+use crate::ReadNumber;
+use crate::fields::field_length;
+use crate::fields::read_number;
+use crate::guards::read_guard;
+use crate::lists::no_guards;
+use crate::lists::with_guard;
+use crate::plain_command;
+ghost use mathlib.Core.Path.{_≡_};
+ghost use Rattle.command.specs.Commands.{fields, guardsOf, offerOf};
+ghost use Rattle.command.specs.Form.{asParsed};
+ghost use Rattle.command.specs.Private.{asOffer, fieldsAfter};
+
+// An offer by p. The bytes start where the field of p ends: at a space, or at the line's end.
+fn offer_of(p: u8, s: &[u8]) -> Parsed
+    ensures { λ r. ⌜ r ≡ asOffer p (guardsOf (fieldsAfter (now (s .entry)))) ⌝ }
+{
+    let mut list = no_guards();
+    let mut at = 0;
+    while at < s.len() {
+        let from = at + 1;
+        let end = from + field_length(&s[from..]);
+        match read_guard(&s[from..end]) {
+            ReadGuard::Malformed => {
+                return plain_command(Kind::Malformed, 0);
+            }
+            ReadGuard::Value(guard) => {
+                list = with_guard(list, guard);
+            }
+        }
+        at = end;
+    }
+    Parsed {
+        kind: Kind::Offer,
+        number: p,
+        list: list,
+    }
+}
+
+// The bytes after `o` and a space: `P G..`.
+pub fn parse_offer(s: &[u8]) -> Parsed
+    ensures { λ r. ⌜ r ≡ asParsed (offerOf (fields (now (s .entry)))) ⌝ }
+{
+    let end = field_length(s);
+    match read_number(&s[..end]) {
+        ReadNumber::Malformed => plain_command(Kind::Malformed, 0),
+        ReadNumber::Value(p) => offer_of(p, &s[end..]),
+    }
+}
