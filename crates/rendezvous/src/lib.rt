@@ -6,6 +6,7 @@ use process::TransactionId;
 
 mod collect;
 mod create;
+mod lending;
 mod offer;
 mod runnable;
 mod step;
