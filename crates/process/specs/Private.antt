@@ -1,10 +1,15 @@
 -- Not to be believed: forms that inner contracts cite; no contract of a call and no part of demand 3 does.
 use mathlib.Core.Bool.{Bool, true, false, not}
 use lib.Dec.{leb}
-use Rattle.process.specs.Types.{Signal, Absent, Present, Place, Idle, Entering, Scanning, Trying, Committed, Posting, Opening, Showing, Asleep, Waiting, Met, State, Running, Alt, Sleeping, Process}
+use Rattle.process.specs.Types.{ℕ, Option, some, none, Found, At, Missing, Signal, Absent, Present, Place, Idle, Entering, Scanning, Trying, Committed, Posting, Opening, Showing, Asleep, Waiting, Met, State, Running, Alt, Sleeping, Process}
 use Rattle.process.specs.declared.Change.{Change}
 use Rattle.process.specs.Process.{stateOf}
 use Rattle.process.specs.Rules.{Effect, Neither, Own, Both}
+
+-- a guard index as the code hands it on
+abbrev pub asFound : Option ℕ → Found
+asFound none = Missing
+asFound (some i) = At i
 
 -- an effect on the records x and y in the form of the code: whether anything changed, the own record, the partner's wake count and signal
 abbrev pub changeOf : Process → Process → Effect → Change

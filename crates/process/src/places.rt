@@ -1,10 +1,11 @@
-// What a place says: its letter, the word that others read, whether a process is idle, and the outcome at M.
+// What a place says: its letter and guard index, the word that others read, whether a process is idle, and the outcome at M.
 use crate::Place;
 use crate::Signal;
 use crate::State;
+use alternative::Found;
 ghost use mathlib.Core.Path.{_≡_};
-ghost use Rattle.process.specs.Process.{letterOf, stateOf, isIdle};
-ghost use Rattle.process.specs.Private.{outcomeOf};
+ghost use Rattle.process.specs.Process.{letterOf, stateOf, indexOf, isIdle};
+ghost use Rattle.process.specs.Private.{asFound, outcomeOf};
 
 impl Place {
     pub fn state(self) -> State
@@ -41,6 +42,25 @@ impl Place {
             Place::Showing => b'H',
             Place::Asleep => b'S',
             Place::Waiting => b'W',
+        }
+    }
+
+    // The guard index at A, T and C.
+    pub fn index(self) -> Found
+        ensures { λ r. ⌜ r ≡ asFound (indexOf self) ⌝ }
+    {
+        match self {
+            Place::Scanning(i) => Found::At(i),
+            Place::Trying(i) => Found::At(i),
+            Place::Committed(i, _) => Found::At(i),
+            Place::Idle => Found::Missing,
+            Place::Entering => Found::Missing,
+            Place::Posting => Found::Missing,
+            Place::Opening => Found::Missing,
+            Place::Showing => Found::Missing,
+            Place::Asleep => Found::Missing,
+            Place::Waiting => Found::Missing,
+            Place::Met(_, _) => Found::Missing,
         }
     }
 

@@ -7,6 +7,7 @@ use process::TransactionId;
 mod collect;
 mod create;
 mod lending;
+mod numbers;
 mod offer;
 mod runnable;
 mod step;
