@@ -1,0 +1,7 @@
+pub mod Cuts
+pub mod Examples
+pub mod Going
+pub mod Lists
+pub mod Outputs
+pub mod Texts
+pub mod Turns

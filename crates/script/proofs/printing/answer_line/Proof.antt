@@ -1,0 +1,15 @@
+use borrow.Author.Needs.{needs}
+use Rattle.text.proofs.Kept.{kept-kept}
+use Rattle.script.proofs.printing.answer_line.Statement.{statement}
+use Rattle.script.proofs.printing.answer_line.Tie as tie
+
+returns : tie.Need-returns
+returns c = simp (c .byte .ensures, c .before .answer-text .ensures, kept-kept)
+
+pub answer-line-spec : {M : Type 1} → statement M
+answer-line-spec =
+    tie.close
+    (tie.spec
+    (λ c κs. search needs)
+    (λ c κs. search needs)
+    returns)

@@ -1,0 +1,16 @@
+use borrow.Author.Needs.{needs}
+use Rattle.text.proofs.Kept.{kept-kept}
+use Rattle.script.proofs.Texts.{refusal-kept}
+use Rattle.script.proofs.printing.malformed_line.Statement.{statement}
+use Rattle.script.proofs.printing.malformed_line.Tie as tie
+
+returns : tie.Need-returns
+returns c = simp (c .byte .ensures, c .before .refusal-text .ensures, kept-kept) (refusal-kept 8)
+
+pub malformed-line-spec : {M : Type 1} → statement M
+malformed-line-spec =
+    tie.close
+    (tie.spec
+    (λ c κs. search needs)
+    (λ c κs. search needs)
+    returns)

@@ -1,0 +1,24 @@
+-- To be believed. Document 01, "The script program": the marked session, byte for byte; and what gives 8.
+use Prim.Native.Nat.{ℕ}
+use mathlib.Core.Path.{_≡_}
+use mathlib.Core.List.{List, _++_, flatten}
+use lib.ListN.{replicate}
+use Rattle.text.specs.Ascii.{bytes}
+use Rattle.script.specs.Session.{output}
+
+-- "Input of the marked session, one command per bar", each ended by byte 10, and its "Whole output"
+abbrev pub MarkedSession : Type 0
+MarkedSession =
+    output (bytes "n 2\no 0 1!r40970a3d\no 1 0?\ns 0\ns 0\ns 0\ns 0\ns 0\ns 1\ns 1\ns 1\ns 1\ns 0\nc 1\nc 0\nm\n")
+    ≡ bytes "n 2\no 0 t0\no 1 t1\ns 0 A0\ns 0 P\ns 0 O\ns 0 H\ns 0 W\ns 1 A0\ns 1 T0\ns 1 C0\ns 1 M\ns 0 M\nc 1 0 0 r40970a3d\nc 0 0 1 0\nm 00000000\n"
+
+-- an offer of k guards, in 3 + 3 k bytes
+unfoldable pub offerLine : ℕ → List ℕ
+offerLine k = bytes "o 0" ++ flatten (replicate k (bytes " 1?"))
+
+-- A command before an accepted `n`, a space too many, an empty line, a line of 201 bytes and an unended last line give 8. A line of 200 bytes does not (its offer has
+-- more than eight guards). After a refused `n` reading goes on with the old table.
+abbrev pub MalformedLines : Type 0
+MalformedLines =
+    output (bytes "s 0\nn 2\nm \n\no 0 1?\nn 33\nm\n" ++ offerLine 63 ++ bytes " 1!0 1!0\n" ++ offerLine 66 ++ bytes "\nn 2")
+    ≡ bytes "x 8\nn 2\nx 8\nx 8\no 0 t0\nx 1\nm 00000001\nx 3\nx 8\nx 8\n"

@@ -1,0 +1,7 @@
+pub mod Types
+pub mod Printing
+pub mod Lines
+pub mod Session
+pub mod Feeding
+pub mod Examples
+pub mod Private

@@ -1,0 +1,51 @@
+-- To be believed. Document 01, "The script program": the line that is printed for a command and what its call says.
+use Prim.Native.Nat.{ℕ}
+use Prim.Native.Char.{code}
+use mathlib.Core.List.{List, [], _∷_, _++_}
+use mathlib.Core.Option.{some, none}
+use lib.Ieee.{binary32, toBits}
+use Rattle.text.specs.Writing.{decimalText, wholeText, hexText}
+use Rattle.rendezvous.specs.Numbers.{Said, made, ticket, place, same, outcome, movers, refusal}
+use Rattle.script.specs.Types.{Message, Nothing, Whole, Reading, Limit, Command, New, Offer, Step, Collect, Movers}
+
+-- "the message as a guard writes it": "`0` nothing, `w` and a decimal .., `r` and eight lower-case hexadecimal digits of the f32's bits, `l` and sixteen such digits"
+unfoldable pub messageText : Message → List ℕ
+messageText Nothing = code "0" ∷ []
+messageText (Whole x) = code "w" ∷ wholeText x
+messageText (Reading x) = code "r" ∷ hexText (toBits binary32 x)
+messageText (Limit low high) = code "l" ∷ hexText (toBits binary32 low) ++ hexText (toBits binary32 high)
+
+-- "fields parted by one space": a field, and the space before it
+abbrev pub field : List ℕ → List ℕ
+field bytes = code " " ∷ bytes
+
+-- "A refused line prints `x`, a space and the number"
+abbrev pub refusalText : ℕ → List ℕ
+refusalText k = code "x" ∷ field (decimalText k)
+
+-- how the line of an accepted command begins: "An `n` line shows N alone", an `o`, `s` or `c` line "the party"
+abbrev pub commandText : Command → List ℕ
+commandText (New n) = code "n" ∷ field (decimalText n)
+commandText (Offer p gs) = code "o" ∷ field (decimalText p)
+commandText (Step p) = code "s" ∷ field (decimalText p)
+commandText (Collect p) = code "c" ∷ field (decimalText p)
+commandText Movers = code "m" ∷ []
+
+-- .. and how it goes on: "`t` with the ticket"; "the place letter, with the guard index at A, T and C"; "A step without change prints `=` for the place."; "guard
+-- index, partner, and the message"; "the set as eight lower-case hexadecimal digits"
+unfoldable pub answerText : List ℕ → Said → List ℕ
+answerText command made = command
+answerText command (ticket t) = command ++ field (code "t" ∷ decimalText t)
+answerText command (place letter none) = command ++ field (letter ∷ [])
+answerText command (place letter (some i)) = command ++ field (letter ∷ decimalText i)
+answerText command same = command ++ field (code "=" ∷ [])
+answerText command (outcome i q m) = command ++ field (decimalText i) ++ field (decimalText q) ++ field (messageText m)
+answerText command (movers set) = command ++ field (hexText set)
+answerText command (refusal k) = refusalText k
+
+-- "each line ended by byte 10"
+abbrev pub endOfLine : ℕ
+endOfLine = 10
+
+abbrev pub ended : List ℕ → List ℕ
+ended line = line ++ endOfLine ∷ []

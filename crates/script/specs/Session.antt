@@ -1,0 +1,63 @@
+-- To be believed. Document 01, "The script program": what each line prints, and all that the program prints for its whole input.
+use Prim.Native.Nat.{ℕ}
+use mathlib.Core.Bool.{Bool, true, false, cond}
+use mathlib.Core.List.{List, [], _∷_, _++_}
+use mathlib.Core.Option.{Option, some, none, Option·map}
+use Rattle.rendezvous.specs.Calls.{create, offer, step, collect, runnable}
+use Rattle.rendezvous.specs.Numbers.{said}
+use Rattle.script.specs.Types.{ProcessTable, Answer, Made, Offered, Moved, Unchanged, Collected, Runnable, Refused, Reply, Command, New, Offer, Step, Collect, Movers}
+use Rattle.script.specs.Printing.{commandText, refusalText, answerText, ended}
+use Rattle.script.specs.Lines.{Line, linesFrom, lineCommand}
+
+-- the reply to a command; "a command but `n` before an accepted `n`" has none
+unfoldable pub replyTo : Option ProcessTable → Command → Option Reply
+replyTo table (New n) = some (create n)
+replyTo table (Offer p gs) = Option·map (λ t. offer t p gs) table
+replyTo table (Step p) = Option·map (λ t. step t p) table
+replyTo table (Collect p) = Option·map (λ t. collect t p) table
+replyTo table Movers = Option·map runnable table
+
+-- the call was turned away
+abbrev pub isRefused : Answer → Bool
+isRefused (Refused refusal) = true
+isRefused Made = false
+isRefused (Offered t) = false
+isRefused (Moved place) = false
+isRefused Unchanged = false
+isRefused (Collected i q m) = false
+isRefused (Runnable set) = false
+
+-- What a line prints, and the table with which reading goes on: none before an accepted `n`.
+pub record Turn : Type 0 where
+  pub prints : List ℕ
+  pub table : Option ProcessTable
+
+-- "8: a script line is malformed"
+abbrev pub malformed : Option ProcessTable → Turn
+malformed table = record { prints = ended (refusalText 8); table = table }
+
+-- "reading goes on with the old desk"; "An accepted `n` replaces the desk."
+unfoldable pub answered : Option ProcessTable → List ℕ → Reply → Turn
+answered table command reply = record {
+  prints = ended (answerText command (said (reply .answer)));
+  table = cond (isRefused (reply .answer)) table (some (reply .table));
+}
+
+-- one command's turn, by its reply
+abbrev pub turnBy : Option ProcessTable → Command → Option Reply → Turn
+turnBy table command none = malformed table
+turnBy table command (some reply) = answered table (commandText command) reply
+
+-- one line's turn, by its command
+unfoldable pub turn : Option ProcessTable → Option Command → Turn
+turn table none = malformed table
+turn table (some command) = turnBy table command (replyTo table command)
+
+-- all lines, each with the table that the one before it left
+unfoldable pub printedBy : Option ProcessTable → List Line → List ℕ
+printedBy table [] = []
+printedBy table (line ∷ lines) = let now = turn table (lineCommand line) in now .prints ++ printedBy (now .table) lines
+
+-- the whole output for the whole input
+unfoldable pub output : List ℕ → List ℕ
+output input = printedBy none (linesFrom [] input)

@@ -1,0 +1,44 @@
+// The script program of document 01, from all input bytes to all output bytes: its lines, commands, calls and printed lines.
+use rendezvous::ProcessTable;
+ghost use Rattle.script.specs.Examples.{MarkedSession, MalformedLines};
+ghost use Rattle.script.specs.Feeding.{Pieces};
+
+mod feeding;
+mod lines;
+mod output;
+mod printing;
+
+pub use feeding::feed;
+pub use feeding::finish;
+pub use feeding::start;
+
+// A session between two pieces of its input. `table` counts where `made` says so. The first `length` bytes of `bytes` are the begun
+// line; one byte more than a line may have tells an overlong one.
+pub struct Session {
+    pub made: bool,
+    pub length: usize,
+    pub bytes: [u8; 201],
+    pub table: ProcessTable,
+}
+
+// How many bytes of a piece were taken, how many bytes of the lent output were filled, and the session after them.
+pub struct Fed {
+    pub taken: usize,
+    pub filled: usize,
+    pub session: Session,
+}
+
+// Carries the claim that the way in which the input is cut into pieces does not matter, so that the verdict has a line for it.
+pub fn pieces()
+    ensures { λ _. ⌜ Pieces ⌝ }
+{}
+
+// Carries the marked session of document 01, byte for byte.
+pub fn marked_session()
+    ensures { λ _. ⌜ MarkedSession ⌝ }
+{}
+
+// Carries an example of each line that gives 8.
+pub fn malformed_lines()
+    ensures { λ _. ⌜ MalformedLines ⌝ }
+{}
