@@ -1,0 +1,166 @@
+//! The command line.
+
+use crate::part::Budget;
+use std::path::{Path, PathBuf};
+use std::time::Duration;
+
+pub const USAGE: &str = "\
+compare PART [--seconds N] [--seed S]   one part: scripts, reached, damaged, nan, interleavings, stress or fuzz
+compare fuzz SECONDS                    the same as fuzz --seconds SECONDS
+compare all [--seconds N] [--seed S]    every part, N seconds in all
+compare long MINUTES                    every part again and again with fresh seeds
+compare once < SCRIPT                   one script; a difference ends the process as a crash
+  --program PATH   another script program than target/bin/script_main
+  --model          the model in the place of the proved library, to try the comparison itself";
+
+#[derive(Clone, Copy, Debug, PartialEq, Eq)]
+pub enum Part {
+    Scripts,
+    Reached,
+    Damaged,
+    Nan,
+    Interleavings,
+    Stress,
+    Fuzz,
+}
+
+pub const PARTS: [Part; 7] = [
+    Part::Scripts,
+    Part::Reached,
+    Part::Damaged,
+    Part::Nan,
+    Part::Interleavings,
+    Part::Stress,
+    Part::Fuzz,
+];
+
+impl Part {
+    pub fn name(self) -> &'static str {
+        match self {
+            Part::Scripts => "scripts",
+            Part::Reached => "reached",
+            Part::Damaged => "damaged",
+            Part::Nan => "nan",
+            Part::Interleavings => "interleavings",
+            Part::Stress => "stress",
+            Part::Fuzz => "fuzz",
+        }
+    }
+
+    /// The part's share of the time when all parts run.
+    pub fn share(self) -> f64 {
+        match self {
+            Part::Scripts | Part::Reached | Part::Damaged => 0.2,
+            Part::Interleavings => 0.2,
+            Part::Stress | Part::Fuzz => 0.1,
+            Part::Nan => 0.0,
+        }
+    }
+}
+
+#[derive(Clone, Copy, Debug, PartialEq, Eq)]
+pub enum Task {
+    One(Part),
+    All,
+    Long,
+    Once,
+}
+
+pub struct Arguments {
+    pub task: Task,
+    pub budget: Budget,
+    pub program: PathBuf,
+    pub both_sides_model: bool,
+}
+
+/// Reads the words of the command line; the error is a sentence for the user.
+pub fn read(words: &[String]) -> Result<Arguments, String> {
+    let (first, rest) = words.split_first().ok_or("A part is missing.")?;
+    let task = task(first)?;
+    let mut arguments = Arguments {
+        task,
+        budget: Budget {
+            seed: 1,
+            time: Duration::from_secs(10),
+        },
+        program: Path::new(env!("CARGO_MANIFEST_DIR")).join("../../target/bin/script_main"),
+        both_sides_model: false,
+    };
+    let mut rest = rest.iter();
+    while let Some(word) = rest.next() {
+        let mut value = || rest.next().ok_or(format!("{word} needs a value."));
+        match word.as_str() {
+            "--seconds" => arguments.budget.time = seconds(value()?)?,
+            "--seed" => arguments.budget.seed = number(value()?)?,
+            "--program" => arguments.program = PathBuf::from(value()?),
+            "--model" => arguments.both_sides_model = true,
+            _ if task == Task::Long => arguments.budget.time = seconds(word)? * 60,
+            _ if task == Task::One(Part::Fuzz) => arguments.budget.time = seconds(word)?,
+            _ => return Err(format!("{word} is not known.")),
+        }
+    }
+    Ok(arguments)
+}
+
+fn task(word: &str) -> Result<Task, String> {
+    let part = PARTS.into_iter().find(|part| part.name() == word);
+    match (word, part) {
+        ("all", _) => Ok(Task::All),
+        ("long", _) => Ok(Task::Long),
+        ("once", _) => Ok(Task::Once),
+        (_, Some(part)) => Ok(Task::One(part)),
+        (_, None) => Err(format!("{word} is no part.")),
+    }
+}
+
+fn seconds(word: &str) -> Result<Duration, String> {
+    let number = u32::try_from(number(word)?);
+    let number = number.map_err(|_| format!("{word} is too long."))?;
+    Ok(Duration::from_secs(u64::from(number)))
+}
+
+fn number(word: &str) -> Result<u64, String> {
+    word.parse()
+        .map_err(|_| format!("{word} is not a whole number."))
+}
+
+#[cfg(test)]
+mod tests {
+    use super::*;
+
+    fn read_line(line: &str) -> Result<Arguments, String> {
+        let words: Vec<String> = line.split(' ').map(str::to_string).collect();
+        read(&words)
+    }
+
+    #[test]
+    fn options_are_read() {
+        let read = read_line("reached --seconds 3 --seed 9 --model").expect("good words");
+        assert_eq!(read.task, Task::One(Part::Reached));
+        assert_eq!(read.budget.time, Duration::from_secs(3));
+        assert_eq!(read.budget.seed, 9);
+        assert!(read.both_sides_model);
+    }
+
+    #[test]
+    fn times_stand_alone_where_they_may() {
+        let fuzz = read_line("fuzz 7").expect("good words");
+        assert_eq!(fuzz.budget.time, Duration::from_secs(7));
+        let long = read_line("long 2").expect("good words");
+        assert_eq!(long.budget.time, Duration::from_secs(120));
+        assert!(read_line("reached 7").is_err());
+    }
+
+    #[test]
+    fn what_is_not_known_is_told() {
+        for line in ["nothing", "all --seconds", "all --seed x", "all --what"] {
+            assert!(read_line(line).is_err(), "{line}");
+        }
+    }
+
+    #[test]
+    fn the_shares_make_up_the_whole() {
+        let sum: f64 = PARTS.into_iter().map(Part::share).sum();
+        assert!((sum - 1.0).abs() < 1e-9);
+    }
+}

@@ -1,0 +1,295 @@
+//! Desks that no run of calls makes: in form but odd, out of form in one point,
+//! or wild.
+
+use crate::draw::{self, list, message};
+use crate::random::Random;
+use crate::wire::RECORDS;
+use model::{Action, Call, Desk, Guard, IndexedMessage, Party, Place, Ticket};
+
+/// One float in so many of a damaged desk is not a number.
+const NAN_IN: usize = 4;
+
+/// Each point by which a desk can be out of form, one for each clause of
+/// refusal 7.
+#[derive(Clone, Copy, Debug, PartialEq, Eq, PartialOrd, Ord)]
+pub enum Point {
+    PartyCount,
+    OwnCount,
+    PostedCount,
+    OwnNamesItself,
+    OwnNamesNobody,
+    PostedNamesItself,
+    PostedNamesNobody,
+    IndexAtA,
+    IndexAtT,
+    IndexAtC,
+    IndexInSignal,
+    IndexInOutcome,
+    KeptIndex,
+}
+
+pub const POINTS: [Point; 13] = [
+    Point::PartyCount,
+    Point::OwnCount,
+    Point::PostedCount,
+    Point::OwnNamesItself,
+    Point::OwnNamesNobody,
+    Point::PostedNamesItself,
+    Point::PostedNamesNobody,
+    Point::IndexAtA,
+    Point::IndexAtT,
+    Point::IndexAtC,
+    Point::IndexInSignal,
+    Point::IndexInOutcome,
+    Point::KeptIndex,
+];
+
+/// A desk in form with any places, lists, signals, wake counts and tickets.
+/// Records that are no party's hold anything at all.
+pub fn odd_desk(random: &mut Random) -> Desk {
+    let n = match random.below(4) {
+        0 => 2 + random.below(31),
+        _ => 2 + random.below(3),
+    };
+    let mut parties: Vec<Party> = (0..n).map(|party| odd_party(random, party, n)).collect();
+    commit_some(random, &mut parties);
+    while parties.len() < RECORDS {
+        parties.push(match random.one_in(3) {
+            true => any_party(random),
+            false => Party::fresh(),
+        });
+    }
+    let next_ticket = Ticket(match random.below(4) {
+        0 => random.pick(&[u32::MAX, u32::MAX - 1]),
+        1 => random.bits(),
+        _ => random.below(6) as u32,
+    });
+    Desk {
+        n,
+        next_ticket,
+        parties,
+    }
+}
+
+fn odd_party(random: &mut Random, party: usize, n: usize) -> Party {
+    let guards = list(random, party, n, NAN_IN);
+    let place = match guards.len() {
+        0 => place_without_index(random),
+        count => odd_place(random, count),
+    };
+    let signal = if guards.is_empty() || random.one_in(2) {
+        None
+    } else {
+        Some(indexed(random, guards.len()))
+    };
+    Party {
+        guards,
+        ticket: Ticket(match random.below(4) {
+            0 => random.bits(),
+            _ => random.below(4) as u32,
+        }),
+        posted: list(random, party, n, NAN_IN),
+        wake_count: random.below(2) as u8,
+        signal,
+        place,
+    }
+}
+
+fn indexed(random: &mut Random, count: usize) -> IndexedMessage {
+    IndexedMessage {
+        index: random.below(count),
+        message: message(random, NAN_IN),
+    }
+}
+
+fn place_without_index(random: &mut Random) -> Place {
+    random.pick(&[
+        Place::Idle,
+        Place::Entering,
+        Place::Posting,
+        Place::Opening,
+        Place::Showing,
+        Place::Asleep,
+        Place::Waiting,
+    ])
+}
+
+fn odd_place(random: &mut Random, count: usize) -> Place {
+    match random.below(10) {
+        0..=2 => Place::Scanning(random.below(count)),
+        3..=4 => Place::Trying(random.below(count)),
+        5 => Place::Met(indexed(random, count)),
+        _ => place_without_index(random),
+    }
+}
+
+/// Puts some parties to C whose partner has posted something to keep.
+fn commit_some(random: &mut Random, parties: &mut [Party]) {
+    for party in 0..parties.len() {
+        let Place::Trying(own) = parties[party].place else {
+            continue;
+        };
+        let count = parties[parties[party].guards[own].partner].posted.len();
+        if count > 0 && random.one_in(2) {
+            let kept = random.below(count);
+            parties[party].place = Place::Committed { own, kept };
+        }
+    }
+}
+
+/// Spoils a desk in form at one point. Some points need a guard or a partner
+/// first; where the desk has none the answer is false.
+pub fn spoil(random: &mut Random, desk: &mut Desk, point: Point) -> bool {
+    let (party, n) = (random.below(desk.n), desk.n);
+    let beyond = random.pick(&[n, n + 1, 32, 255]).max(n);
+    match point {
+        Point::PartyCount => {
+            desk.n = random.pick(&[0, 1, 33, 34, 64, 255]);
+            true
+        }
+        Point::KeptIndex => misplace_kept(random, desk, party),
+        Point::OwnNamesItself => misname(random, &mut desk.parties[party].guards, party),
+        Point::OwnNamesNobody => misname(random, &mut desk.parties[party].guards, beyond),
+        Point::PostedNamesItself => misname(random, &mut desk.parties[party].posted, party),
+        Point::PostedNamesNobody => misname(random, &mut desk.parties[party].posted, beyond),
+        _ => {
+            spoil_record(random, &mut desk.parties[party], point);
+            true
+        }
+    }
+}
+
+/// The points that any record can be spoiled at.
+fn spoil_record(random: &mut Random, record: &mut Party, point: Point) {
+    let own = past(random, record.guards.len());
+    let outside = IndexedMessage {
+        index: own,
+        message: message(random, NAN_IN),
+    };
+    match point {
+        Point::OwnCount => overfill(random, &mut record.guards),
+        Point::PostedCount => overfill(random, &mut record.posted),
+        Point::IndexAtA => record.place = Place::Scanning(own),
+        Point::IndexAtT => record.place = Place::Trying(own),
+        Point::IndexAtC => record.place = Place::Committed { own, kept: 0 },
+        Point::IndexInSignal => record.signal = Some(outside),
+        _ => record.place = Place::Met(outside),
+    }
+}
+
+/// An index past a list's end, mostly the first one.
+fn past(random: &mut Random, count: usize) -> usize {
+    match random.below(3) {
+        0 => random.pick(&[8, 9, 255]).max(count),
+        _ => count,
+    }
+}
+
+fn overfill(random: &mut Random, list: &mut Vec<Guard>) {
+    let blank = Guard {
+        enabled: false,
+        partner: 0,
+        action: Action::Receive,
+    };
+    list.resize(random.pick(&[9, 10, 32, 255]), blank);
+}
+
+fn misname(random: &mut Random, list: &mut [Guard], partner: usize) -> bool {
+    if list.is_empty() {
+        return false;
+    }
+    let at = random.below(list.len());
+    list[at].partner = partner;
+    true
+}
+
+fn misplace_kept(random: &mut Random, desk: &mut Desk, party: usize) -> bool {
+    let count = desk.parties[party].guards.len();
+    if count == 0 {
+        return false;
+    }
+    let own = random.below(count);
+    let partner = desk.parties[party].guards[own].partner;
+    let kept = past(random, desk.parties[partner].posted.len());
+    desk.parties[party].place = Place::Committed { own, kept };
+    true
+}
+
+/// A desk of any shape, mostly out of form.
+pub fn any_desk(random: &mut Random) -> Desk {
+    Desk {
+        n: match random.below(3) {
+            0 => usize::from(random.byte()),
+            _ => random.below(34),
+        },
+        next_ticket: Ticket(random.bits()),
+        parties: (0..RECORDS).map(|_| any_party(random)).collect(),
+    }
+}
+
+fn any_party(random: &mut Random) -> Party {
+    let index = random.below(10);
+    let indexed = IndexedMessage {
+        index,
+        message: message(random, NAN_IN),
+    };
+    let kept = random.below(10);
+    let with_index = random.pick(&[
+        Place::Scanning(index),
+        Place::Trying(index),
+        Place::Committed { own: index, kept },
+        Place::Met(indexed),
+    ]);
+    Party {
+        guards: any_list(random),
+        ticket: Ticket(random.bits()),
+        posted: any_list(random),
+        wake_count: random.below(2) as u8,
+        signal: random.one_in(2).then_some(indexed),
+        place: match random.one_in(2) {
+            true => with_index,
+            false => place_without_index(random),
+        },
+    }
+}
+
+fn any_list(random: &mut Random) -> Vec<Guard> {
+    let mut guards = list(random, 0, 33, NAN_IN);
+    if random.one_in(8) {
+        overfill(random, &mut guards);
+    }
+    guards
+}
+
+/// A desk that some calls reach, with one value changed afterwards.
+pub fn changed_desk(random: &mut Random) -> Desk {
+    let n = 2 + random.below(4);
+    let mut desk = Desk::new(n).expect("2 to 5 parties");
+    for _ in 0..random.below(60) {
+        let party = random.below(n);
+        // A refused call is as good as another here.
+        let _ = match random.below(4) {
+            0 => match draw::offer(random, party, n) {
+                Call::Offer { guards, .. } => desk.offer(party, &guards).is_ok(),
+                _ => false,
+            },
+            _ => desk.step(party).is_ok(),
+        };
+    }
+    let party = random.below(n);
+    change_one_value(random, &mut desk.parties[party]);
+    desk.parties.resize(RECORDS, Party::fresh());
+    desk
+}
+
+fn change_one_value(random: &mut Random, record: &mut Party) {
+    let count = record.guards.len().max(1);
+    match random.below(6) {
+        0 => record.place = odd_place(random, count),
+        1 => record.wake_count ^= 1,
+        2 => record.signal = Some(indexed(random, count)),
+        3 => record.signal = None,
+        4 => record.ticket = Ticket(random.below(5) as u32),
+        _ => record.posted = record.guards.clone(),
+    }
+}

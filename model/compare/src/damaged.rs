@@ -1,0 +1,170 @@
+//! Calls on damaged tables, with a count of every refusal and rule that was hit.
+
+use crate::damage::{self, POINTS};
+use crate::draw;
+use crate::library::{both, line, Library};
+use crate::part::{Budget, Finding, Outcome};
+use crate::random::Random;
+use crate::reduce_desk::reduce;
+use crate::tally::Tally;
+use crate::wire::{decode, encode, normal, Table};
+use model::{Call, Desk};
+
+/// Tables for each seed, and calls on each of them.
+const TABLES: usize = 40;
+const CALLS: usize = 8;
+
+pub fn run(library: &dyn Library, budget: Budget) -> Outcome {
+    let mut tally = Tally::new();
+    let mut tables = 0;
+    for seed in budget.seeds() {
+        let found = |text| Finding::new(seed, text);
+        if seed == budget.seed {
+            creations(library, &mut tally).map_err(found)?;
+        }
+        let mut part = Tables {
+            library,
+            random: Random::new(seed),
+            tally: &mut tally,
+        };
+        for _ in 0..TABLES {
+            part.one().map_err(found)?;
+            tables += 1;
+        }
+    }
+    print!("{}", tally.listed());
+    match tally.missed().as_slice() {
+        [] => Ok(format!(
+            "damaged tables: {tables} tables, {} calls, every refusal, rule and point hit",
+            tally.calls
+        )),
+        missed => Err(Finding::new(
+            budget.seed,
+            format!("never hit: {}", missed.join(", ")),
+        )),
+    }
+}
+
+/// Every number of processes: a fresh table, or 1.
+fn creations(library: &dyn Library, tally: &mut Tally) -> Result<(), String> {
+    for n in 0..=255 {
+        let given = library.create(n);
+        let expected = Desk::new(usize::from(n)).map_err(model::Refusal::number);
+        let expected = expected.map(|desk| encode(&desk));
+        if given != expected {
+            return Err(format!("n {n}: the fresh tables or the refusals differ"));
+        }
+        if let Err(number) = given {
+            tally.refused(number);
+        }
+    }
+    Ok(())
+}
+
+struct Tables<'a> {
+    library: &'a dyn Library,
+    random: Random,
+    tally: &'a mut Tally,
+}
+
+impl Tables<'_> {
+    fn one(&mut self) -> Result<(), String> {
+        let random = &mut self.random;
+        let table = match random.below(16) {
+            0..=7 => encode(&damage::odd_desk(random)),
+            8..=10 => encode(&damage::changed_desk(random)),
+            11 => slack(random),
+            12 => encode(&damage::any_desk(random)),
+            13 => random_bytes(random),
+            _ => return self.out_of_form(),
+        };
+        self.calls_on(table)
+    }
+
+    /// Some calls one after the other, each on what the one before left.
+    fn calls_on(&mut self, mut table: Table) -> Result<(), String> {
+        let mut desk = decode(&table);
+        for _ in 0..CALLS {
+            let call = draw::call(&mut self.random, desk.n.clamp(2, 32));
+            let before = desk.clone();
+            let reply = both(self.library, &table, &mut desk, &call)
+                .map_err(|text| told(self.library, &table, &call, &text))?;
+            self.tally.note(&before, &call, &reply);
+            table = reply.table;
+        }
+        Ok(())
+    }
+
+    /// A desk in form, spoiled at one point: every call gives 7.
+    fn out_of_form(&mut self) -> Result<(), String> {
+        let point = self.random.pick(&POINTS);
+        let mut desk = damage::odd_desk(&mut self.random);
+        if !damage::spoil(&mut self.random, &mut desk, point) {
+            return Ok(());
+        }
+        let (table, n) = (encode(&desk), desk.n.clamp(2, 32));
+        for _ in 0..CALLS {
+            let call = draw::call(&mut self.random, n);
+            let told = |text: &str| told(self.library, &table, &call, text);
+            let reply = both(self.library, &table, &mut desk, &call).map_err(|text| told(&text))?;
+            if reply.answer != Err(7) {
+                return Err(told(&format!("{point:?} is not refused by 7")));
+            }
+            self.tally.note(&desk, &call, &reply);
+            self.tally.out_of_form(point);
+        }
+        Ok(())
+    }
+}
+
+/// A desk in form whose lists have something in the slots past their ends.
+fn slack(random: &mut Random) -> Table {
+    let desk = damage::odd_desk(random);
+    let other = encode(&damage::any_desk(random));
+    let mut table = encode(&desk);
+    for (number, record) in desk.parties.iter().enumerate() {
+        for at in Table::slots_past(number, record.guards.len(), record.posted.len()) {
+            table.bytes_mut()[at] = other.bytes()[at];
+        }
+    }
+    table
+}
+
+/// Bytes of any kind are a table too, mostly one out of form.
+fn random_bytes(random: &mut Random) -> Table {
+    let mut table = Table::zero();
+    let most = random.pick(&[2, 4, 12, 256]);
+    for byte in table.bytes_mut() {
+        *byte = random.below(most) as u8;
+    }
+    table
+}
+
+/// The complaint, with the smallest table and call that still bring one.
+fn told(library: &dyn Library, table: &Table, call: &Call, text: &str) -> String {
+    let differs =
+        |table: &Table, call: &Call| both(library, table, &mut decode(table), call).is_err();
+    let given = (decode(&normal(table)), call.clone());
+    let (desk, call) = reduce(given, |desk, call| differs(&encode(desk), call));
+    let mut shown = format!("{text}\nthe smallest table and call found:\n");
+    shown.push_str(&show(&desk));
+    shown.push_str(&format!("call: {}\n", line(&call)));
+    if let Err(text) = both(library, &encode(&desk), &mut desk.clone(), &call) {
+        shown.push_str(&text);
+    } else {
+        shown
+            .push_str("(on this table the two agree: the difference needs the bytes as they were)");
+    }
+    shown
+}
+
+/// A desk in a few lines: what differs from a fresh one.
+fn show(desk: &Desk) -> String {
+    let mut text = format!("n {}, next ticket {}\n", desk.n, desk.next_ticket.0);
+    for (party, record) in desk.parties.iter().enumerate() {
+        if *record != model::Party::fresh() {
+            text.push_str(&format!("record {party}: {record:?}\n"));
+        }
+    }
+    text
+}

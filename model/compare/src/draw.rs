@@ -1,0 +1,171 @@
+//! Random messages, guards, lists and calls.
+
+use crate::random::Random;
+use model::{Action, Call, Guard, Message};
+
+/// Ten patterns of NaNs: quiet and signalling, positive and negative.
+pub const NANS: [u32; 10] = [
+    0x7fc0_0000,
+    0xffc0_0000,
+    0x7f80_0001,
+    0xff80_0001,
+    0x7fbf_ffff,
+    0xffbf_ffff,
+    0x7fff_ffff,
+    0xffff_ffff,
+    0x7fe1_2345,
+    0xffa5_a5a5,
+];
+
+/// Numbers at the edges: zeros, infinities, the smallest and the largest.
+const EDGES: [u32; 9] = [
+    0,
+    0x8000_0000,
+    0x7f80_0000,
+    0xff80_0000,
+    1,
+    0x8000_0001,
+    0x007f_ffff,
+    0x7f7f_ffff,
+    0x4097_0a3d,
+];
+
+/// No float of a message is a NaN.
+const NEVER: usize = usize::MAX;
+
+/// An f32 that is a number.
+fn number(random: &mut Random) -> f32 {
+    if random.one_in(3) {
+        return f32::from_bits(random.pick(&EDGES));
+    }
+    let value = f32::from_bits(random.bits());
+    if value.is_nan() {
+        1.5
+    } else {
+        value
+    }
+}
+
+/// An f32, now and then one that is not a number.
+fn float(random: &mut Random, nan_in: usize) -> f32 {
+    match nan_in != NEVER && random.one_in(nan_in) {
+        true => f32::from_bits(random.pick(&NANS)),
+        false => number(random),
+    }
+}
+
+/// A message; one float in `nan_in` is not a number.
+pub fn message(random: &mut Random, nan_in: usize) -> Message {
+    match random.below(5) {
+        0 => Message::Nothing,
+        1 => Message::Whole(random.pick(&[0, 1, -1, i32::MIN, i32::MAX, 1000])),
+        2 => Message::Whole(random.bits() as i32),
+        3 => Message::Reading(float(random, nan_in)),
+        _ => Message::Limit {
+            low: float(random, nan_in),
+            high: float(random, nan_in),
+        },
+    }
+}
+
+/// Another party than `party`, often a neighbour, so that offers match often
+/// on a large desk too; `n` is at least 2.
+fn partner(random: &mut Random, party: usize, n: usize) -> usize {
+    if party ^ 1 < n && random.one_in(2) {
+        return party ^ 1;
+    }
+    (party + 1 + random.below(n - 1)) % n
+}
+
+/// A guard that fits into the list of `party`.
+fn guard(random: &mut Random, party: usize, n: usize, nan_in: usize) -> Guard {
+    Guard {
+        enabled: !random.one_in(5),
+        partner: partner(random, party, n),
+        action: match random.one_in(2) {
+            true => Action::Receive,
+            false => Action::Send(message(random, nan_in)),
+        },
+    }
+}
+
+/// A list of up to eight guards that fits, mostly a short one.
+pub fn list(random: &mut Random, party: usize, n: usize, nan_in: usize) -> Vec<Guard> {
+    let count = match random.below(4) {
+        0 => random.below(9),
+        _ => random.below(4),
+    };
+    (0..count)
+        .map(|_| guard(random, party, n, nan_in))
+        .collect()
+}
+
+/// A good list in which a neighbour is always met in both directions. An offer
+/// cannot be taken back: only with such lists does a desk never run dry.
+pub fn sociable_list(random: &mut Random, party: usize, n: usize) -> Vec<Guard> {
+    let mut guards = list(random, party, n, NEVER);
+    guards.truncate(6);
+    let partner = if party ^ 1 < n { party ^ 1 } else { 0 };
+    for action in [Action::Receive, Action::Send(message(random, NEVER))] {
+        let guard = Guard {
+            enabled: true,
+            partner,
+            action,
+        };
+        guards.insert(random.below(guards.len() + 1), guard);
+    }
+    guards
+}
+
+/// A call, accepted or refused in any way that a table in form allows.
+pub fn call(random: &mut Random, n: usize) -> Call {
+    let party = match random.below(40) {
+        0 => random.pick(&[n, n + 1, 31, 32, 33, 254, 255]).min(255),
+        _ => random.below(n),
+    };
+    match random.below(20) {
+        0..=4 => offer(random, party, n),
+        5..=6 => Call::Collect { party },
+        7 => Call::Movers,
+        _ => Call::Step { party },
+    }
+}
+
+/// An offer, in one case of five with something wrong in it.
+pub fn offer(random: &mut Random, party: usize, n: usize) -> Call {
+    let owner = party % n;
+    let mut guards = list(random, owner, n, NEVER);
+    if guards.is_empty() {
+        guards.push(guard(random, owner, n, NEVER));
+    }
+    if random.one_in(5) {
+        spoil(random, &mut guards, owner, n);
+    }
+    Call::Offer { party, guards }
+}
+
+fn spoil(random: &mut Random, guards: &mut Vec<Guard>, owner: usize, n: usize) {
+    let at = random.below(guards.len());
+    match random.below(6) {
+        0 => guards.clear(),
+        1 => {
+            let count = random.pick(&[8, 9, 10, 17]);
+            guards.resize_with(count, || guard(random, owner, n, 4));
+        }
+        2 => guards[at].partner = owner,
+        3 => guards[at].partner = random.pick(&[n, n + 1, 32, 255]).min(255),
+        4 => {
+            let nan = f32::from_bits(random.pick(&NANS));
+            let (low, high) = if random.one_in(2) {
+                (nan, 0.0)
+            } else {
+                (0.0, nan)
+            };
+            guards[at].action = Action::Send(match random.one_in(2) {
+                true => Message::Reading(nan),
+                false => Message::Limit { low, high },
+            });
+        }
+        _ => guards.iter_mut().for_each(|guard| guard.enabled = false),
+    }
+}

@@ -1,0 +1,170 @@
+//! One run from a fresh table: the library, the model and the plain book side
+//! by side, with every clause of demand 3 checked after every call.
+
+use crate::library::{both, Given, Library, Reply};
+use crate::wire::Table;
+use model::{Answer, Book, Call, Desk, Entry, Guard, Meeting, OpenOffer, Ticket};
+use std::collections::BTreeSet;
+
+#[derive(Clone)]
+pub struct Follow {
+    pub table: Table,
+    pub desk: Desk,
+    pub book: Book,
+    /// The tickets that stand in a rendezvous so far.
+    pub met: BTreeSet<Ticket>,
+}
+
+impl Follow {
+    pub fn new(library: &dyn Library, n: usize) -> Result<Follow, String> {
+        let desk = Desk::new(n).expect("2 to 32 parties");
+        let table = library
+            .create(n as u8)
+            .map_err(|number| format!("a table of {n} is refused by {number}"))?;
+        match table.first_difference(&crate::wire::encode(&desk)) {
+            Some(place) => Err(format!("the fresh tables differ at {place}")),
+            None => Ok(Follow {
+                table,
+                desk,
+                book: Book::new(),
+                met: BTreeSet::new(),
+            }),
+        }
+    }
+
+    /// Makes one call on all three sides and compares them. The error is a
+    /// difference; a refusal, the same on both sides, is an answer.
+    pub fn call(
+        &mut self,
+        library: &dyn Library,
+        call: &Call,
+    ) -> Result<Result<Given, u8>, String> {
+        let reply = both(library, &self.table, &mut self.desk, call)?;
+        self.enter(call, &reply)?;
+        self.table = reply.table;
+        Ok(reply.answer)
+    }
+
+    /// Feeds the book with the library's answer and checks the clauses.
+    fn enter(&mut self, call: &Call, reply: &Reply) -> Result<(), String> {
+        let before = self.book.open_offers();
+        let place = match reply.answer {
+            Ok(Given::Place(place)) => place,
+            _ => None,
+        };
+        let entry = self
+            .book
+            .feed(call, reply.answer.is_err(), place)
+            .map_err(|stuck| format!("the book is stuck: {stuck}"))?;
+        match reply.answer {
+            Err(7) => Err("a reached table is refused by 7".to_string()),
+            Err(_) => expect(entry == Entry::Unchanged, "a refused call enters something"),
+            Ok(given) => self.accepted(given, entry, &before),
+        }?;
+        self.open_offers_agree()
+    }
+
+    fn accepted(&mut self, given: Given, entry: Entry, before: &[OpenOffer]) -> Result<(), String> {
+        match given {
+            Given::Ticket(ticket) => expect(
+                entry == Entry::Opened(ticket),
+                "the ticket is not the book's",
+            ),
+            Given::Outcome(outcome) => expect(
+                entry == Entry::Given(outcome),
+                "the collection is not what is due",
+            ),
+            Given::Place(place) => self.stepped(place, entry, before),
+            Given::Set(set) => expect(set != 0 || self.rests(), "at rest two open offers match"),
+        }
+    }
+
+    /// A commit enters one rendezvous, any other step nothing.
+    fn stepped(
+        &mut self,
+        place: Option<Answer>,
+        entry: Entry,
+        before: &[OpenOffer],
+    ) -> Result<(), String> {
+        let commits = place.is_some_and(|place| place.letter == 'C');
+        match entry {
+            Entry::Met(meeting) if commits => self.joined(&meeting, before),
+            entry => expect(
+                !commits && entry == Entry::Unchanged,
+                "a step enters what it should not",
+            ),
+        }
+    }
+
+    /// A rendezvous joins two offers open until now, on matching guards, and
+    /// neither ticket met before.
+    fn joined(&mut self, meeting: &Meeting, before: &[OpenOffer]) -> Result<(), String> {
+        let find = |party, ticket| {
+            before
+                .iter()
+                .find(|offer| offer.party == party && offer.ticket == ticket)
+        };
+        let own = find(meeting.p, meeting.p_ticket).and_then(|offer| offer.guards.get(meeting.i));
+        let other = find(meeting.q, meeting.q_ticket).and_then(|offer| offer.guards.get(meeting.j));
+        let (Some(own), Some(other)) = (own, other) else {
+            return Err(format!("{meeting:?} joins offers that are not open"));
+        };
+        expect(
+            fit(meeting.p, own, meeting.q, other),
+            "a rendezvous joins guards that do not match",
+        )?;
+        let sender = if own.sends() { own } else { other };
+        expect(
+            sender.message() == meeting.message,
+            "a rendezvous has another message",
+        )?;
+        for ticket in [meeting.p_ticket, meeting.q_ticket] {
+            expect(self.met.insert(ticket), "a ticket stands in two rendezvous")?;
+        }
+        Ok(())
+    }
+
+    /// The table's open offers are the book's, in process, ticket and list.
+    fn open_offers_agree(&self) -> Result<(), String> {
+        expect(
+            self.desk.open_offers() == self.book.open_offers(),
+            "the open offers are not the book's",
+        )
+    }
+
+    /// No two open offers match.
+    fn rests(&self) -> bool {
+        let offers = self.book.open_offers();
+        offers.iter().enumerate().all(|(index, one)| {
+            offers[index + 1..]
+                .iter()
+                .all(|other| !offers_match(one, other))
+        })
+    }
+}
+
+/// Two guards match: both are enabled, each names the other's party, and one
+/// sends while the other receives.
+fn fit(p: usize, own: &Guard, q: usize, other: &Guard) -> bool {
+    own.enabled
+        && other.enabled
+        && own.partner == q
+        && other.partner == p
+        && own.sends() != other.sends()
+}
+
+fn offers_match(one: &OpenOffer, other: &OpenOffer) -> bool {
+    one.guards.iter().any(|own| {
+        other
+            .guards
+            .iter()
+            .any(|theirs| fit(one.party, own, other.party, theirs))
+    })
+}
+
+fn expect(holds: bool, complaint: &str) -> Result<(), String> {
+    match holds {
+        true => Ok(()),
+        false => Err(complaint.to_string()),
+    }
+}

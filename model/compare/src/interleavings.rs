@@ -1,0 +1,330 @@
+//! Every order of calls, for two and three processes with short lists: the
+//! library is driven along each edge of the whole graph of states.
+
+use crate::follow::Follow;
+use crate::library::{Given, Library};
+use crate::part::{Budget, Finding, Outcome};
+use crate::random::Random;
+use crate::reached::told;
+use crate::wire::put_message;
+use model::{Action, Call, Guard, Message};
+use std::collections::HashSet;
+use std::time::Instant;
+
+/// How many plans of one offer each there are.
+const PAIRS: usize = 14 * 14;
+const TRIPLES: usize = 20 * 20 * 20;
+
+/// For each process the lists that it offers one after the other.
+type Plan = Vec<Vec<Vec<Guard>>>;
+
+#[derive(Default)]
+struct Sums {
+    /// The plans that were explored whole, by their kind.
+    pairs: u64,
+    triples: u64,
+    longer: u64,
+    states: u64,
+    calls: u64,
+    commits: u64,
+    rests: u64,
+}
+
+pub fn run(library: &dyn Library, budget: Budget) -> Outcome {
+    let end = budget.end();
+    let mut sums = Sums::default();
+    for plan in plans(budget.seed) {
+        if sums.plans() > 0 && Instant::now() >= end {
+            break;
+        }
+        explore(library, &plan, end, &mut sums).map_err(|text| Finding::new(budget.seed, text))?;
+    }
+    Ok(format!(
+        "interleavings: every order of {} of {PAIRS} plans for two processes, {} of {TRIPLES} for three \
+         and {} with second offers; {} states, {} calls, {} commits, {} states at rest",
+        sums.pairs,
+        sums.triples,
+        sums.longer,
+        sums.states,
+        sums.calls,
+        sums.commits,
+        sums.rests
+    ))
+}
+
+impl Sums {
+    fn plans(&self) -> u64 {
+        self.pairs + self.triples + self.longer
+    }
+
+    fn note(&mut self, plan: &Plan) {
+        let once = plan.iter().all(|lists| lists.len() == 1);
+        match (once, plan.len()) {
+            (true, 2) => self.pairs += 1,
+            (true, _) => self.triples += 1,
+            (false, _) => self.longer += 1,
+        }
+    }
+}
+
+/// First every plan of one offer each for two processes; then, shuffled, every
+/// plan of one offer each for three; then further offers without an end.
+fn plans(seed: u64) -> impl Iterator<Item = Plan> {
+    let mut random = Random::new(seed);
+    let two = every_pair();
+    let mut three = every_triple();
+    random.shuffle(&mut three);
+    let longer = std::iter::from_fn(move || Some(longer_plan(&mut random)));
+    two.into_iter().chain(alternate(three, longer))
+}
+
+/// One of each in turn, and the endless ones alone once the others are used up.
+fn alternate(
+    some: Vec<Plan>,
+    mut endless: impl Iterator<Item = Plan>,
+) -> impl Iterator<Item = Plan> {
+    let mut some = some.into_iter();
+    let mut turn = false;
+    std::iter::from_fn(move || {
+        turn = !turn;
+        match turn {
+            true => some.next().or_else(|| endless.next()),
+            false => endless.next(),
+        }
+    })
+}
+
+fn every_pair() -> Vec<Plan> {
+    let (first, second) = (lists(0, 2, true), lists(1, 2, true));
+    let mut plans = Vec::new();
+    for one in &first {
+        for other in &second {
+            plans.push(vec![vec![one.clone()], vec![other.clone()]]);
+        }
+    }
+    plans
+}
+
+fn every_triple() -> Vec<Plan> {
+    let all: Vec<_> = (0..3).map(|party| lists(party, 3, false)).collect();
+    let mut plans = Vec::new();
+    for one in &all[0] {
+        for two in &all[1] {
+            for three in &all[2] {
+                plans.push([one, two, three].map(|list| vec![list.clone()]).to_vec());
+            }
+        }
+    }
+    plans
+}
+
+/// Two or three processes, one or two of which offer twice.
+fn longer_plan(random: &mut Random) -> Plan {
+    let n = 2 + random.below(2);
+    let twice = random.below(n);
+    let both = n == 2 && random.one_in(2);
+    (0..n)
+        .map(|party| {
+            let choices = lists(party, n, n == 2);
+            let count = if both || party == twice { 2 } else { 1 };
+            let mut draw = |offer| {
+                let mut list = choices[random.below(choices.len())].clone();
+                number(&mut list, party, offer);
+                list
+            };
+            (0..count).map(&mut draw).collect()
+        })
+        .collect()
+}
+
+/// Every list of one or two guards with an enabled one among them.
+fn lists(party: usize, n: usize, with_disabled: bool) -> Vec<Vec<Guard>> {
+    let mut guards = Vec::new();
+    for partner in (0..n).filter(|&other| other != party) {
+        for sends in [false, true] {
+            guards.push(guard(partner, sends, true));
+            if with_disabled {
+                guards.push(guard(partner, sends, false));
+            }
+        }
+    }
+    let mut lists: Vec<Vec<Guard>> = guards.iter().map(|&guard| vec![guard]).collect();
+    for &one in &guards {
+        lists.extend(guards.iter().map(|&other| vec![one, other]));
+    }
+    lists.retain(|list| list.iter().any(|guard| guard.enabled));
+    lists.iter_mut().for_each(|list| number(list, party, 0));
+    lists
+}
+
+fn guard(partner: usize, sends: bool, enabled: bool) -> Guard {
+    Guard {
+        enabled,
+        partner,
+        action: match sends {
+            true => Action::Send(Message::Nothing),
+            false => Action::Receive,
+        },
+    }
+}
+
+/// Gives every sending guard of a party's offers a message of its own.
+fn number(list: &mut [Guard], party: usize, offer: usize) {
+    for (index, guard) in list.iter_mut().enumerate() {
+        if guard.sends() {
+            let whole = 100 * offer + 10 * party + index + 1;
+            guard.action = Action::Send(Message::Whole(whole as i32));
+        }
+    }
+}
+
+/// A state of the graph, with the call that led there from an earlier one.
+struct State {
+    follow: Follow,
+    offers_made: Vec<usize>,
+    path: usize,
+}
+
+/// The calls that led to each state, as a tree.
+type Paths = Vec<Option<(usize, Call)>>;
+
+fn explore(
+    library: &dyn Library,
+    plan: &Plan,
+    end: Instant,
+    sums: &mut Sums,
+) -> Result<(), String> {
+    let n = plan.len();
+    let start = State {
+        follow: Follow::new(library, n)?,
+        offers_made: vec![0; n],
+        path: 0,
+    };
+    let mut paths: Paths = vec![None];
+    let mut seen = HashSet::from([key(&start, n)]);
+    let mut to_do = vec![start];
+    while let Some(state) = to_do.pop() {
+        sums.states += 1;
+        for call in calls(plan, &state) {
+            let next = edge(library, &state, &call, sums).map_err(|text| {
+                let calls = path_to(&paths, state.path, call.clone());
+                told(library, n, &calls, &text)
+            })?;
+            let Some(mut next) = next else { continue };
+            if seen.insert(key(&next, n)) {
+                paths.push(Some((state.path, call)));
+                next.path = paths.len() - 1;
+                to_do.push(next);
+            }
+        }
+        if Instant::now() >= end && sums.plans() > 0 {
+            return Ok(());
+        }
+    }
+    sums.note(plan);
+    Ok(())
+}
+
+/// Every call that this state allows, refused ones too.
+fn calls(plan: &Plan, state: &State) -> Vec<Call> {
+    let mut calls = vec![Call::Movers];
+    for (party, lists) in plan.iter().enumerate() {
+        calls.push(Call::Step { party });
+        calls.push(Call::Collect { party });
+        if let Some(guards) = lists.get(state.offers_made[party]) {
+            let guards = guards.clone();
+            calls.push(Call::Offer { party, guards });
+        }
+    }
+    calls
+}
+
+/// The state after a call, if it changed anything.
+fn edge(
+    library: &dyn Library,
+    state: &State,
+    call: &Call,
+    sums: &mut Sums,
+) -> Result<Option<State>, String> {
+    let mut next = State {
+        follow: state.follow.clone(),
+        offers_made: state.offers_made.clone(),
+        path: state.path,
+    };
+    let answer = next.follow.call(library, call)?;
+    sums.calls += 1;
+    match (answer, call) {
+        (Ok(Given::Ticket(_)), Call::Offer { party, .. }) => next.offers_made[*party] += 1,
+        (Ok(Given::Place(Some(place))), _) if place.letter == 'C' => sums.commits += 1,
+        (Ok(Given::Set(0)), _) => sums.rests += 1,
+        _ => {}
+    }
+    Ok((next.follow.table != state.follow.table).then_some(next))
+}
+
+fn path_to(paths: &Paths, mut at: usize, last: Call) -> Vec<Call> {
+    let mut calls = vec![last];
+    while let Some((before, call)) = &paths[at] {
+        calls.push(call.clone());
+        at = *before;
+    }
+    calls.reverse();
+    calls
+}
+
+/// All that tells two states apart: the table, the book and the offers made.
+/// The open offers of the two agree, so the book adds only what is due and the
+/// tickets that met.
+fn key(state: &State, n: usize) -> Vec<u8> {
+    let mut key = state.follow.table.part(n).to_vec();
+    key.extend(state.offers_made.iter().map(|&count| count as u8));
+    for ticket in &state.follow.met {
+        key.extend(ticket.0.to_le_bytes());
+    }
+    for party in 0..n {
+        if let Some(due) = state.follow.book.due(party) {
+            key.extend([party as u8, due.index as u8, due.partner as u8]);
+            put_message(&mut key, due.message);
+        }
+    }
+    key
+}
+
+#[cfg(test)]
+mod tests {
+    use super::*;
+    use crate::library::Modelled;
+    use std::time::Duration;
+
+    fn explored(plan: &Plan) -> Sums {
+        let mut sums = Sums::default();
+        let end = Instant::now() + Duration::from_secs(600);
+        let found = explore(&Modelled, plan, end, &mut sums);
+        assert_eq!(found, Ok(()));
+        sums
+    }
+
+    #[test]
+    fn two_that_match_meet_in_every_order() {
+        let sums = explored(&vec![
+            vec![vec![guard(1, true, true)]],
+            vec![vec![guard(0, false, true)]],
+        ]);
+        assert!(sums.pairs == 1 && sums.commits > 0 && sums.rests > 0);
+    }
+
+    #[test]
+    fn two_that_do_not_match_never_meet() {
+        let sums = explored(&vec![
+            vec![vec![guard(1, true, true)]],
+            vec![vec![guard(0, true, true)]],
+        ]);
+        assert!(sums.pairs == 1 && sums.commits == 0 && sums.rests > 0);
+    }
+
+    #[test]
+    fn the_plans_are_all_there() {
+        assert_eq!(every_pair().len(), PAIRS);
+        assert_eq!(every_triple().len(), TRIPLES);
+    }
+}

@@ -1,0 +1,139 @@
+//! The calls on a table in its byte form, whoever answers them, and the
+//! comparison of one call with the model's.
+
+use crate::wire::{decode, encode, normal, one_nan, Table};
+use model::{Answer, Call, Desk, Outcome, Refusal, Ticket};
+
+/// What an accepted call says.
+#[derive(Clone, Copy, Debug, PartialEq, Eq)]
+pub enum Given {
+    Ticket(Ticket),
+    /// The new place of a step; none if nothing changed.
+    Place(Option<Answer>),
+    Outcome(Outcome),
+    Set(u32),
+}
+
+/// What a call says, or the number of its refusal; and the table given back.
+#[derive(Clone, Debug, PartialEq, Eq)]
+pub struct Reply {
+    pub answer: Result<Given, u8>,
+    pub table: Table,
+}
+
+pub trait Library: Sync {
+    fn create(&self, n: u8) -> Result<Table, u8>;
+    fn call(&self, table: &Table, call: &Call) -> Reply;
+}
+
+/// The model behind the byte form, to try the comparison on itself.
+pub struct Modelled;
+
+impl Library for Modelled {
+    fn create(&self, n: u8) -> Result<Table, u8> {
+        let desk = Desk::new(usize::from(n)).map_err(Refusal::number)?;
+        Ok(encode(&desk))
+    }
+
+    fn call(&self, table: &Table, call: &Call) -> Reply {
+        let mut desk = decode(table);
+        let answer = in_model(&mut desk, call);
+        let table = match changes(&answer) {
+            true => normal(&encode(&desk)),
+            false => normal(table),
+        };
+        Reply { answer, table }
+    }
+}
+
+/// True if a call with this answer changes the table.
+fn changes(answer: &Result<Given, u8>) -> bool {
+    match answer {
+        Ok(Given::Ticket(_) | Given::Outcome(_)) => true,
+        Ok(Given::Place(place)) => place.is_some(),
+        Ok(Given::Set(_)) | Err(_) => false,
+    }
+}
+
+/// Makes a call in the model. A NaN is given in the one way that the byte form
+/// has for it.
+pub fn in_model(desk: &mut Desk, call: &Call) -> Result<Given, u8> {
+    let given = match call {
+        Call::Offer { party, guards } => desk.offer(*party, guards).map(Given::Ticket),
+        Call::Step { party } => desk.step(*party).map(Given::Place),
+        Call::Collect { party } => desk.collect(*party).map(|outcome| {
+            Given::Outcome(Outcome {
+                message: one_nan(outcome.message),
+                ..outcome
+            })
+        }),
+        Call::Movers => desk.movers().map(Given::Set),
+    };
+    given.map_err(Refusal::number)
+}
+
+/// Makes a call on both sides. `desk` is what `table` says and is moved along;
+/// the reply is the library's. An error says how the two differ.
+pub fn both(
+    library: &dyn Library,
+    table: &Table,
+    desk: &mut Desk,
+    call: &Call,
+) -> Result<Reply, String> {
+    let reply = library.call(table, call);
+    let expected = in_model(desk, call);
+    if reply.answer != expected {
+        let given = &reply.answer;
+        return Err(format!(
+            "the library answers {given:?}, the model {expected:?}"
+        ));
+    }
+    match changes(&expected) {
+        false => same(&reply.table, &normal(table)),
+        true => same_change(&reply.table, &normal(&encode(desk)), table),
+    }?;
+    Ok(reply)
+}
+
+/// Slots past the ends of lists may differ only where `before` had something
+/// in such slots: no rule reads them, and so none says what becomes of them.
+fn same_change(given: &Table, expected: &Table, before: &Table) -> Result<(), String> {
+    let blanked = |table: &Table| encode(&decode(table));
+    let had_slack = || blanked(before) != *before;
+    if given != expected && *given == normal(given) && had_slack() {
+        return same(&blanked(given), expected);
+    }
+    same(given, expected)
+}
+
+fn same(given: &Table, expected: &Table) -> Result<(), String> {
+    match given.first_difference(expected) {
+        None => Ok(()),
+        Some(place) => Err(format!(
+            "the table given back is not the model's: {place} (in a record: place 0, \
+             signal 12, ticket 23, accepting 27, counts 28, own list 30, posted list 126)"
+        )),
+    }
+}
+
+/// A call as a script writes it.
+pub fn line(call: &Call) -> String {
+    match call {
+        Call::Offer { party, guards } => {
+            let guards: String = guards.iter().map(guard_text).collect();
+            format!("o {party}{guards}")
+        }
+        Call::Step { party } => format!("s {party}"),
+        Call::Collect { party } => format!("c {party}"),
+        Call::Movers => "m".to_string(),
+    }
+}
+
+fn guard_text(guard: &model::Guard) -> String {
+    let sign = if guard.enabled { "" } else { "-" };
+    let partner = guard.partner;
+    match guard.action {
+        model::Action::Receive => format!(" {sign}{partner}?"),
+        model::Action::Send(message) => format!(" {sign}{partner}!{message}"),
+    }
+}

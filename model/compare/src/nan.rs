@@ -1,0 +1,37 @@
+//! NaNs, passed as numbers, by way of the compiled code's message, guard, record
+//! and table: every bit of their payload comes back. The logic has one NaN, so
+//! that no contract can say it.
+
+use crate::draw::NANS;
+use crate::part::{Budget, Finding, Outcome};
+use crate::proved::{limit_through, reading_through};
+use crate::random::Random;
+
+/// Further patterns, drawn at random.
+const RANDOM_NANS: usize = 10_000;
+
+pub fn run(budget: Budget) -> Outcome {
+    let mut random = Random::new(budget.seed);
+    let drawn = (0..RANDOM_NANS).map(|_| random.bits() | 0x7f80_0000);
+    let patterns: Vec<u32> = NANS.into_iter().chain(drawn).collect();
+    for pair in patterns.windows(2) {
+        kept(pair[0], pair[1]).map_err(|text| Finding::new(budget.seed, text))?;
+    }
+    Ok(format!(
+        "nan: {} patterns of NaNs and infinities, each through a reading and both halves of a limit, bit for bit",
+        patterns.len() - 1
+    ))
+}
+
+fn kept(one: u32, other: u32) -> Result<(), String> {
+    let (low, high) = limit_through(f32::from_bits(one), f32::from_bits(other));
+    let reading = reading_through(f32::from_bits(one));
+    let given = (reading.to_bits(), low.to_bits(), high.to_bits());
+    match given == (one, one, other) {
+        true => Ok(()),
+        false => Err(format!(
+            "the reading {one:08x} comes back as {:08x}, the limit {one:08x} {other:08x} as {:08x} {:08x}",
+            given.0, given.1, given.2
+        )),
+    }
+}

@@ -1,0 +1,210 @@
+//! Random runs from fresh tables of 2 to 32 processes, call by call.
+
+use crate::draw;
+use crate::follow::Follow;
+use crate::library::{line, Given, Library};
+use crate::pace::Pace;
+use crate::part::{Budget, Finding, Outcome};
+use crate::random::Random;
+use crate::reduce::smallest;
+use model::{Call, Place};
+use std::collections::BTreeSet;
+
+/// A desk that has not come to rest after so many rounds is a difference.
+const MOST_ROUNDS: usize = 20_000;
+
+#[derive(Default)]
+struct Sums {
+    runs: u64,
+    sizes: BTreeSet<usize>,
+    calls: u64,
+    refused: u64,
+    rendezvous: u64,
+    collections: u64,
+    rests: u64,
+}
+
+pub fn run(library: &dyn Library, budget: Budget) -> Outcome {
+    let mut sums = Sums::default();
+    for seed in budget.seeds() {
+        // One seed after another goes through every number of processes.
+        let n = 2 + (seed % 31) as usize;
+        let mut run = Run {
+            library,
+            random: Random::new(seed),
+            pace: Pace::default(),
+            sociable: (seed / 31) % 4 != 0,
+            calls: Vec::new(),
+            sums: &mut sums,
+        };
+        if let Err(text) = run.all(n) {
+            let calls = run.calls;
+            return Err(Finding::new(seed, told(library, n, &calls, &text)));
+        }
+    }
+    Ok(format!(
+        "reached tables: {} runs, {} of the 31 numbers of processes, {} calls ({} refused), \
+         {} rendezvous, {} collections, {} times at rest",
+        sums.runs,
+        sums.sizes.len(),
+        sums.calls,
+        sums.refused,
+        sums.rendezvous,
+        sums.collections,
+        sums.rests
+    ))
+}
+
+/// The complaint, with the shortest list of calls that still brings a complaint.
+pub fn told(library: &dyn Library, n: usize, calls: &[Call], text: &str) -> String {
+    if replay(library, n, calls).is_ok() {
+        return format!("{text}\n(the same calls once more bring no difference)");
+    }
+    let short = smallest(calls, |some| replay(library, n, some).is_err());
+    let again = replay(library, n, &short).err();
+    let mut script = format!("n {n}\n");
+    for call in &short {
+        script.push_str(&line(call));
+        script.push('\n');
+    }
+    let count = calls.len();
+    let again = again.unwrap_or_default();
+    format!(
+        "{text}\nafter {count} calls; these {} give: {again}\n{script}",
+        short.len()
+    )
+}
+
+fn replay(library: &dyn Library, n: usize, calls: &[Call]) -> Result<(), String> {
+    let mut follow = Follow::new(library, n)?;
+    for call in calls {
+        let _refused_or_not = follow.call(library, call)?;
+    }
+    Ok(())
+}
+
+struct Run<'a> {
+    library: &'a dyn Library,
+    random: Random,
+    pace: Pace,
+    /// Whether idle parties offer lists with which the desk never runs dry.
+    sociable: bool,
+    calls: Vec<Call>,
+    sums: &'a mut Sums,
+}
+
+impl Run<'_> {
+    /// Some hundred calls in any order, then steps until rest; four times over.
+    fn all(&mut self, n: usize) -> Result<(), String> {
+        let mut follow = Follow::new(self.library, n)?;
+        for _ in 0..4 {
+            for _ in 0..30 + 15 * n {
+                let call = self.lively(&follow);
+                self.call(&mut follow, call)?;
+            }
+            self.settle(&mut follow)?;
+        }
+        self.sums.runs += 1;
+        self.sums.sizes.insert(n);
+        self.sums.rendezvous += follow.book.meetings().len() as u64;
+        Ok(())
+    }
+
+    /// Mostly a call that the party's place asks for, and any call now and then.
+    fn lively(&mut self, follow: &Follow) -> Call {
+        let (random, n) = (&mut self.random, follow.desk.n);
+        if random.one_in(8) {
+            return draw::call(random, n);
+        }
+        let party = self.pace.party(random, &follow.desk);
+        match follow.desk.parties[party].place {
+            Place::Idle if self.sociable => {
+                let guards = draw::sociable_list(random, party, n);
+                Call::Offer { party, guards }
+            }
+            Place::Idle => draw::offer(random, party, n),
+            Place::Met(_) if !random.one_in(4) => Call::Collect { party },
+            _ => Call::Step { party },
+        }
+    }
+
+    fn call(&mut self, follow: &mut Follow, call: Call) -> Result<Option<Given>, String> {
+        self.calls.push(call);
+        let call = self.calls.last().expect("one was just put there");
+        let answer = follow.call(self.library, call)?;
+        self.sums.calls += 1;
+        self.sums.refused += u64::from(answer.is_err());
+        self.sums.collections += u64::from(matches!(answer, Ok(Given::Outcome(_))));
+        Ok(answer.ok())
+    }
+
+    /// Steps those that can move, in random order, until none can.
+    fn settle(&mut self, follow: &mut Follow) -> Result<(), String> {
+        for _ in 0..MOST_ROUNDS {
+            let Some(Given::Set(set)) = self.call(follow, Call::Movers)? else {
+                return Err("a reached table is refused by 7".to_string());
+            };
+            if set == 0 {
+                self.sums.rests += 1;
+                return Ok(());
+            }
+            let mut movers: Vec<usize> = (0..32).filter(|p| set >> p & 1 == 1).collect();
+            self.random.shuffle(&mut movers);
+            for party in movers {
+                self.call(follow, Call::Step { party })?;
+            }
+        }
+        Err("the table does not come to rest".to_string())
+    }
+}
+
+#[cfg(test)]
+mod tests {
+    use super::*;
+    use crate::library::{Modelled, Reply};
+    use crate::wire::Table;
+    use model::Message;
+    use std::time::Duration;
+
+    fn one_run(library: &dyn Library, seed: u64) -> Outcome {
+        let time = Duration::ZERO;
+        run(library, Budget { seed, time })
+    }
+
+    #[test]
+    fn the_model_agrees_with_itself() {
+        for seed in 31..36 {
+            let summary = one_run(&Modelled, seed).map_err(|finding| finding.text);
+            assert!(summary.is_ok_and(|line| !line.contains(" 0 rendezvous")));
+        }
+    }
+
+    /// The model, but a collected limit has its halves exchanged.
+    struct Exchanged;
+
+    impl Library for Exchanged {
+        fn create(&self, n: u8) -> Result<Table, u8> {
+            Modelled.create(n)
+        }
+
+        fn call(&self, table: &Table, call: &Call) -> Reply {
+            let mut reply = Modelled.call(table, call);
+            if let Ok(Given::Outcome(outcome)) = &mut reply.answer {
+                if let Message::Limit { low, high } = outcome.message {
+                    outcome.message = Message::Limit {
+                        low: high,
+                        high: low,
+                    };
+                }
+            }
+            reply
+        }
+    }
+
+    #[test]
+    fn exchanged_halves_are_found_and_told_in_few_lines() {
+        let found = (31..62).find_map(|seed| one_run(&Exchanged, seed).err());
+        let text = found.expect("a difference").text;
+        assert!(text.contains("\nc ") && text.lines().count() < 25, "{text}");
+    }
+}

@@ -1,0 +1,83 @@
+//! Making a failing pair of desk and call smaller, value by value.
+
+use model::{Call, Desk, Message, Party, Ticket};
+
+type Case = (Desk, Call);
+
+/// Tries simpler values one after the other, and keeps each with which the
+/// pair still fails, until none helps.
+pub fn reduce(case: Case, fails: impl Fn(&Desk, &Call) -> bool) -> Case {
+    let mut smallest = case;
+    loop {
+        let better = simpler(&smallest)
+            .into_iter()
+            .find(|case| *case != smallest && fails(&case.0, &case.1));
+        match better {
+            Some(case) => smallest = case,
+            None => return smallest,
+        }
+    }
+}
+
+fn simpler(case: &Case) -> Vec<Case> {
+    let (desk, call) = case;
+    let mut cases = Vec::new();
+    for n in 2..desk.n.min(33) {
+        let smaller = Desk { n, ..desk.clone() };
+        cases.push((smaller, call.clone()));
+    }
+    let ticketless = Desk {
+        next_ticket: Ticket(0),
+        ..desk.clone()
+    };
+    cases.push((ticketless, call.clone()));
+    for party in 0..desk.parties.len() {
+        for record in simpler_records(&desk.parties[party]) {
+            let mut changed = desk.clone();
+            changed.parties[party] = record;
+            cases.push((changed, call.clone()));
+        }
+    }
+    if let Call::Offer { party, guards } = call {
+        for at in 0..guards.len() {
+            let (party, mut guards) = (*party, guards.clone());
+            guards.remove(at);
+            cases.push((desk.clone(), Call::Offer { party, guards }));
+        }
+    }
+    cases
+}
+
+/// Each with something taken away.
+fn simpler_records(record: &Party) -> Vec<Party> {
+    let fresh = Party::fresh();
+    if *record == fresh {
+        return Vec::new();
+    }
+    let mut records = vec![fresh];
+    let mut with = |change: &dyn Fn(&mut Party)| {
+        let mut changed = record.clone();
+        change(&mut changed);
+        records.push(changed);
+    };
+    with(&|party| party.guards.clear());
+    with(&|party| party.posted.clear());
+    with(&|party| party.guards.truncate(party.guards.len().saturating_sub(1)));
+    with(&|party| party.posted.truncate(party.posted.len().saturating_sub(1)));
+    with(&|party| party.signal = None);
+    with(&|party| party.ticket = Ticket(0));
+    with(&|party| party.wake_count = 1);
+    for at in 0..record.guards.len() {
+        with(&|party| quiet(&mut party.guards[at]));
+    }
+    for at in 0..record.posted.len() {
+        with(&|party| quiet(&mut party.posted[at]));
+    }
+    records
+}
+
+fn quiet(guard: &mut model::Guard) {
+    if guard.sends() {
+        guard.action = model::Action::Send(Message::Nothing);
+    }
+}

@@ -1,0 +1,142 @@
+//! Scripts, good and spoiled: the program's output against the model's.
+
+use crate::part::{Budget, Finding, Outcome};
+use crate::program::{Program, WHOLE};
+use crate::random::Random;
+use crate::reduce::smallest;
+use crate::spoil::{noise, spoil};
+use crate::write::script;
+use std::collections::BTreeMap;
+
+/// Scripts that one run of the program reads one after the other. Each begins
+/// with its own `n` line, or goes on with the table of the one before.
+const BATCH: usize = 40;
+
+#[derive(Default)]
+struct Sums {
+    inputs: u64,
+    scripts: u64,
+    lines: u64,
+    bytes: u64,
+    kinds: BTreeMap<String, u64>,
+}
+
+/// The kinds of output line that a script can bring about: each command, and
+/// each refusal but 7 and 12.
+const KINDS: [&str; 14] = [
+    "n", "o", "s", "c", "m", "x 1", "x 2", "x 3", "x 4", "x 5", "x 6", "x 8", "x 11", "x 13",
+];
+
+impl Sums {
+    fn note(&mut self, input: &[u8], output: &[u8]) {
+        self.inputs += 1;
+        self.bytes += input.len() as u64;
+        for line in output.split_inclusive(|&byte| byte == b'\n') {
+            self.lines += 1;
+            let text = String::from_utf8_lossy(line);
+            let kind = match text.trim_end() {
+                refused if refused.starts_with('x') => refused.to_string(),
+                accepted => accepted.chars().take(1).collect(),
+            };
+            *self.kinds.entry(kind).or_insert(0) += 1;
+        }
+    }
+
+    fn missed(&self) -> Vec<&'static str> {
+        let missed = KINDS.into_iter();
+        missed
+            .filter(|&kind| !self.kinds.contains_key(kind))
+            .collect()
+    }
+}
+
+pub fn run(program: &Program, budget: Budget) -> Outcome {
+    let mut sums = Sums::default();
+    let found = |seed, text: String| Finding::new(seed, text);
+    for seed in budget.seeds() {
+        let mut random = Random::new(seed);
+        let mut batch = Vec::new();
+        for _ in 0..BATCH {
+            batch.extend(one(&mut random));
+            sums.scripts += 1;
+        }
+        same(program, &batch, WHOLE, &mut sums).map_err(|text| found(seed, text))?;
+        // Whole inputs of their own: the first line, and the end of the input.
+        for _ in 0..8 {
+            let input = alone(&mut random);
+            let piece = match random.one_in(8) {
+                true => 1 + input.len() / 20 + random.below(30),
+                false => WHOLE,
+            };
+            sums.scripts += 1;
+            same(program, &input, piece, &mut sums).map_err(|text| found(seed, text))?;
+        }
+    }
+    match sums.missed().as_slice() {
+        [] => Ok(format!(
+            "scripts: {} scripts in {} runs of the program, {} lines, {} bytes, every kind of output line",
+            sums.scripts, sums.inputs, sums.lines, sums.bytes
+        )),
+        missed => Err(found(budget.seed, format!("never printed: {}", missed.join(", ")))),
+    }
+}
+
+fn one(random: &mut Random) -> Vec<u8> {
+    let mut script = script(random);
+    if random.one_in(3) {
+        spoil(random, &mut script);
+    }
+    if random.one_in(20) {
+        script = noise(random);
+    }
+    if script.last() != Some(&b'\n') {
+        script.push(b'\n');
+    }
+    script
+}
+
+/// A script by itself, often spoiled, often with an unended last line.
+fn alone(random: &mut Random) -> Vec<u8> {
+    let mut script = match random.below(6) {
+        0 => noise(random),
+        _ => script(random),
+    };
+    if random.one_in(2) {
+        spoil(random, &mut script);
+    }
+    if random.one_in(3) {
+        script.truncate(random.below(script.len() + 1));
+    }
+    script
+}
+
+fn same(program: &Program, input: &[u8], piece: usize, sums: &mut Sums) -> Result<(), String> {
+    match program.compared(input, piece) {
+        Ok(output) => {
+            sums.note(input, &output);
+            Ok(())
+        }
+        Err(text) if piece == WHOLE => Err(told(program, input, &text)),
+        Err(text) => {
+            let text = told(program, input, &text);
+            Err(format!("in pieces of {piece} bytes: {text}"))
+        }
+    }
+}
+
+/// The complaint with the shortest input found, first by lines, then by bytes.
+pub fn told(program: &Program, input: &[u8], text: &str) -> String {
+    let lines: Vec<&[u8]> = input.split_inclusive(|&byte| byte == b'\n').collect();
+    let differs = |some: &[u8]| program.compared(some, WHOLE).err();
+    if differs(input).is_none() {
+        return format!("{text}\n(the same input once more, whole, brings no difference)");
+    }
+    let fewer = smallest(&lines, |some| differs(&some.concat()).is_some());
+    let short = smallest(&fewer.concat(), |some| differs(some).is_some());
+    let again = differs(&short).unwrap_or_default();
+    let shown: String = short
+        .split_inclusive(|&byte| byte == b'\n')
+        .map(|line| format!("{}\n", line.escape_ascii()))
+        .collect();
+    format!("{text}\nthe shortest input found gives: {again}\n{shown}")
+}

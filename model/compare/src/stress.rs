@@ -1,0 +1,258 @@
+//! Two threads on two cores, each driving half of the processes on one shared
+//! table under a lock for each call. The recorded history is then checked
+//! against model and book, and every collected message against what was sent.
+
+use crate::draw;
+use crate::follow::Follow;
+use crate::ledger;
+use crate::library::{Given, Library};
+use crate::part::{Budget, Finding, Outcome};
+use crate::random::Random;
+use crate::reached::told;
+use crate::wire::Table;
+use model::{Action, Call, Guard, Message};
+use std::sync::atomic::{AtomicBool, Ordering};
+use std::sync::{Mutex, MutexGuard, TryLockError};
+use std::thread;
+use std::time::{Duration, Instant};
+
+/// How long the threads run before a history is checked.
+const ROUND: Duration = Duration::from_millis(400);
+
+pub type History = Vec<(Call, Result<Given, u8>)>;
+
+struct Shared {
+    table: Table,
+    history: History,
+    /// How often the thread that called was another than the time before.
+    switches: u64,
+    last: usize,
+}
+
+/// What the two threads have in common.
+struct MeetingPoint {
+    shared: Mutex<Shared>,
+    /// Which thread waits for the lock, or is about to.
+    waiting: [AtomicBool; 2],
+}
+
+impl MeetingPoint {
+    /// Waits for the lock without sleeping, so that the threads take turns
+    /// often. A poisoned lock still has the history that shows why.
+    fn enter(&self, thread: usize) -> MutexGuard<'_, Shared> {
+        self.waiting[thread].store(true, Ordering::Relaxed);
+        let shared = loop {
+            match self.shared.try_lock() {
+                Ok(shared) => break shared,
+                Err(TryLockError::Poisoned(poisoned)) => break poisoned.into_inner(),
+                Err(TryLockError::WouldBlock) => thread::yield_now(),
+            }
+        };
+        self.waiting[thread].store(false, Ordering::Relaxed);
+        shared
+    }
+
+    /// Lets the other thread go first if it waits: a lock alone is mostly taken
+    /// again by the one who had it.
+    fn make_way(&self, thread: usize) {
+        for _ in 0..100 {
+            if !self.waiting[1 - thread].load(Ordering::Relaxed) {
+                return;
+            }
+            thread::yield_now();
+        }
+    }
+}
+
+impl Shared {
+    fn call(&mut self, library: &dyn Library, call: Call, thread: usize) -> Result<Given, u8> {
+        let reply = library.call(&self.table, &call);
+        self.table = reply.table;
+        self.history.push((call, reply.answer));
+        self.switches += u64::from(self.last != thread);
+        self.last = thread;
+        reply.answer
+    }
+}
+
+pub fn run(library: &dyn Library, budget: Budget) -> Outcome {
+    let (mut calls, mut switches, mut messages) = (0, 0, 0);
+    for seed in budget.seeds() {
+        let n = [2, 3, 4, 8, 32][(seed % 5) as usize];
+        let found = |text| Finding::new(seed, text);
+        let mut shared = round(library, n, seed).map_err(found)?;
+        finish(library, n, &mut shared).map_err(found)?;
+        messages += check(library, n, &shared).map_err(found)?;
+        calls += shared.history.len();
+        switches += shared.switches;
+    }
+    match switches {
+        0 => Err(Finding::new(
+            budget.seed,
+            "the two threads never took turns",
+        )),
+        _ => Ok(format!(
+            "stress: {calls} calls of two threads, {switches} turns between them, \
+             {messages} messages, none lost and none twice"
+        )),
+    }
+}
+
+/// Two threads for a while.
+fn round(library: &dyn Library, n: usize, seed: u64) -> Result<Shared, String> {
+    let table = library
+        .create(n as u8)
+        .map_err(|number| format!("a table of {n} is refused by {number}"))?;
+    let meeting_point = MeetingPoint {
+        shared: Mutex::new(Shared {
+            table,
+            history: Vec::new(),
+            switches: 0,
+            last: 0,
+        }),
+        waiting: [AtomicBool::new(false), AtomicBool::new(false)],
+    };
+    let end = Instant::now() + ROUND;
+    thread::scope(|scope| {
+        for thread in 0..2 {
+            let mut half = Half::new(thread, n, seed);
+            let meeting_point = &meeting_point;
+            scope.spawn(move || half.drive(library, meeting_point, end));
+        }
+    });
+    meeting_point
+        .shared
+        .into_inner()
+        .map_err(|_| "a thread ended in the middle of a call".to_string())
+}
+
+/// The processes of one thread: the even or the odd ones.
+struct Half {
+    thread: usize,
+    n: usize,
+    random: Random,
+    /// The letter of each process's place, as far as its own calls told it.
+    letters: Vec<char>,
+    messages: u32,
+}
+
+impl Half {
+    fn new(thread: usize, n: usize, seed: u64) -> Half {
+        Half {
+            thread,
+            n,
+            random: Random::new(seed.wrapping_mul(2).wrapping_add(thread as u64)),
+            letters: vec!['I'; n],
+            messages: thread as u32,
+        }
+    }
+
+    fn drive(&mut self, library: &dyn Library, meeting_point: &MeetingPoint, end: Instant) {
+        while Instant::now() < end {
+            let (party, call) = self.next_call();
+            let answer = meeting_point
+                .enter(self.thread)
+                .call(library, call, self.thread);
+            match answer {
+                Ok(Given::Ticket(_)) => self.letters[party] = 'E',
+                Ok(Given::Place(Some(place))) => self.letters[party] = place.letter,
+                Ok(Given::Outcome(_)) => self.letters[party] = 'I',
+                _ => {}
+            }
+            if self.random.one_in(2) {
+                meeting_point.make_way(self.thread);
+            }
+        }
+    }
+
+    fn next_call(&mut self) -> (usize, Call) {
+        let half = (self.n - self.thread).div_ceil(2);
+        let party = self.thread + 2 * self.random.below(half);
+        let call = match (self.letters[party], self.random.below(10)) {
+            ('I', 0..=8) | (_, 0) => self.offer(party),
+            ('M', 1..=7) | (_, 1) => Call::Collect { party },
+            _ => Call::Step { party },
+        };
+        (party, call)
+    }
+
+    /// An offer whose messages are all different from all others.
+    fn offer(&mut self, party: usize) -> Call {
+        let mut guards = draw::sociable_list(&mut self.random, party, self.n);
+        for guard in &mut guards {
+            self.mark(guard);
+        }
+        Call::Offer { party, guards }
+    }
+
+    fn mark(&mut self, guard: &mut Guard) {
+        if !guard.sends() {
+            return;
+        }
+        // One thread has the even numbers and the other the odd ones.
+        self.messages += 2;
+        let bits = self.messages;
+        let float = f32::from_bits(bits);
+        guard.action = Action::Send(match self.random.below(3) {
+            0 => Message::Whole(bits as i32),
+            1 => Message::Reading(float),
+            _ => Message::Limit {
+                low: -float,
+                high: float,
+            },
+        });
+    }
+}
+
+/// Steps and collects until nothing is left to do, so that whatever met is
+/// also collected.
+fn finish(library: &dyn Library, n: usize, shared: &mut Shared) -> Result<(), String> {
+    for _ in 0..100_000 {
+        let mut busy = false;
+        for party in 0..n {
+            let stepped = shared.call(library, Call::Step { party }, 0);
+            busy |= matches!(stepped, Ok(Given::Place(Some(_))));
+            busy |= shared.call(library, Call::Collect { party }, 0).is_ok();
+        }
+        if !busy {
+            return Ok(());
+        }
+    }
+    Err("the table does not come to rest".to_string())
+}
+
+/// Goes through the history again beside model and book, then by messages.
+fn check(library: &dyn Library, n: usize, shared: &Shared) -> Result<usize, String> {
+    let mut follow = Follow::new(library, n)?;
+    for (at, (call, answer)) in shared.history.iter().enumerate() {
+        let again = follow.call(library, call);
+        if again.as_ref() != Ok(answer) {
+            let calls: Vec<Call> = shared.history[..=at]
+                .iter()
+                .map(|(call, _)| call.clone())
+                .collect();
+            let text = format!("call {at} answered {answer:?} to a thread, and now {again:?}");
+            return Err(told(library, n, &calls, &text));
+        }
+    }
+    match follow.table == shared.table {
+        true => ledger::check(&shared.history),
+        false => Err("the shared table is not the one that its history makes".to_string()),
+    }
+}
+
+#[cfg(test)]
+mod tests {
+    use super::*;
+    use crate::library::Modelled;
+
+    #[test]
+    fn the_model_stands_the_stress() {
+        let budget = Budget {
+            seed: 1,
+            time: Duration::from_secs(1),
+        };
+        let summary = run(&Modelled, budget).map_err(|finding| finding.text);
+        assert!(summary.is_ok_and(|line| !line.contains(" 0 messages")));
+    }
+}

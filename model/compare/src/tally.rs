@@ -1,0 +1,143 @@
+//! How often each refusal, each rule and each odd case was hit.
+
+use crate::damage::{Point, POINTS};
+use crate::library::{Given, Reply};
+use model::{Answer, Call, Desk, Guard, Party, Place};
+use std::collections::BTreeMap;
+
+const REFUSALS: [u8; 10] = [1, 2, 3, 4, 5, 6, 7, 11, 12, 13];
+
+/// Odd cases that only damaged tables have.
+const ODD: [&str; 7] = [
+    "rule 6 with equal tickets",
+    "rule 8 with a disabled own guard",
+    "rule 9 with two receiving guards",
+    "rule 9 with two sending guards",
+    "rule 9 over an old signal",
+    "rule 9 hands over a NaN",
+    "rule 13 with wake count 0",
+];
+
+pub struct Tally {
+    pub calls: u64,
+    counts: BTreeMap<String, u64>,
+}
+
+impl Tally {
+    /// All that has to be hit, at 0.
+    pub fn new() -> Tally {
+        let refusals = REFUSALS.iter().map(|&number| refusal_name(number));
+        let rules = (1..=15).map(rule_name);
+        let odd = ODD.iter().map(|name| name.to_string());
+        let points = POINTS.iter().map(point_name);
+        let names = refusals.chain(rules).chain(odd).chain(points);
+        Tally {
+            calls: 0,
+            counts: names.map(|name| (name, 0)).collect(),
+        }
+    }
+
+    fn hit(&mut self, name: String) {
+        *self.counts.entry(name).or_insert(0) += 1;
+    }
+
+    pub fn refused(&mut self, number: u8) {
+        self.hit(refusal_name(number));
+    }
+
+    pub fn out_of_form(&mut self, point: Point) {
+        self.hit(point_name(&point));
+    }
+
+    /// Notes a call on the desk as it was before.
+    pub fn note(&mut self, before: &Desk, call: &Call, reply: &Reply) {
+        self.calls += 1;
+        match (&reply.answer, call) {
+            (Err(number), _) => self.refused(*number),
+            (Ok(Given::Place(answer)), Call::Step { party }) => {
+                let rule = rule_of(before.parties[*party].place, *answer);
+                self.hit(rule_name(rule));
+                if let Some(name) = odd_case(before, *party, rule) {
+                    self.hit(name.to_string());
+                }
+            }
+            _ => {}
+        }
+    }
+
+    /// What was never hit.
+    pub fn missed(&self) -> Vec<String> {
+        let missed = self.counts.iter().filter(|(_, &count)| count == 0);
+        missed.map(|(name, _)| name.clone()).collect()
+    }
+
+    pub fn listed(&self) -> String {
+        let lines = self.counts.iter();
+        lines
+            .map(|(name, count)| format!("  {name}: {count}\n"))
+            .collect()
+    }
+}
+
+fn refusal_name(number: u8) -> String {
+    format!("refusal {number:2}")
+}
+
+fn rule_name(rule: u8) -> String {
+    format!("rule {rule:2}")
+}
+
+fn point_name(point: &Point) -> String {
+    format!("7 by {point:?} alone")
+}
+
+/// The rule by which a party at this place gives this answer.
+fn rule_of(place: Place, answer: Option<Answer>) -> u8 {
+    let letter = answer.map(|answer| answer.letter);
+    match (place, letter) {
+        (Place::Entering, _) => 1,
+        (Place::Asleep, _) => 2,
+        (Place::Scanning(_), Some('T')) => 4,
+        (Place::Scanning(_), Some('S')) => 5,
+        (Place::Scanning(_), Some(_)) => 3,
+        (Place::Scanning(_), None) => 6,
+        (Place::Trying(_), Some('C')) => 7,
+        (Place::Trying(_), _) => 8,
+        (Place::Committed { .. }, _) => 9,
+        (Place::Posting, _) => 10,
+        (Place::Opening, _) => 11,
+        (Place::Showing, _) => 12,
+        (Place::Waiting, Some(_)) => 13,
+        (Place::Waiting, None) => 14,
+        (Place::Idle | Place::Met(_), _) => 15,
+    }
+}
+
+fn odd_case(desk: &Desk, party: usize, rule: u8) -> Option<&'static str> {
+    let record = &desk.parties[party];
+    match record.place {
+        Place::Scanning(own) => {
+            let partner = &desk.parties[record.guards[own].partner];
+            (rule == 6 && partner.ticket == record.ticket).then_some(ODD[0])
+        }
+        Place::Trying(own) => (!record.guards[own].enabled).then_some(ODD[1]),
+        Place::Committed { own, kept } => {
+            let own = record.guards[own];
+            odd_delivery(&own, &desk.parties[own.partner], kept)
+        }
+        Place::Waiting => (rule == 13 && record.wake_count == 0).then_some(ODD[6]),
+        _ => None,
+    }
+}
+
+fn odd_delivery(own: &Guard, partner: &Party, kept: usize) -> Option<&'static str> {
+    let kept = partner.posted[kept];
+    let sender = if own.sends() { own } else { &kept };
+    match (own.sends(), kept.sends()) {
+        _ if sender.message().holds_nan() => Some(ODD[5]),
+        (false, false) => Some(ODD[2]),
+        (true, true) => Some(ODD[3]),
+        _ if partner.signal.is_some() => Some(ODD[4]),
+        _ => None,
+    }
+}

@@ -1,0 +1,210 @@
+//! Random scripts: good sessions, odd lines, and long ones.
+
+use crate::draw;
+use crate::library::{in_model, line, Given};
+use crate::pace::Pace;
+use crate::random::Random;
+use model::{Call, Desk, Place};
+
+/// Numbers around every bound of N and P, good and bad.
+const NUMBERS: [&str; 18] = [
+    "0",
+    "1",
+    "2",
+    "3",
+    "4",
+    "8",
+    "31",
+    "32",
+    "33",
+    "99",
+    "254",
+    "255",
+    "256",
+    "257",
+    "00",
+    "01",
+    "1000",
+    "4294967298",
+];
+
+/// Whole numbers around every bound, good and bad.
+const WHOLES: [&str; 16] = [
+    "0",
+    "1",
+    "-1",
+    "2147483646",
+    "2147483647",
+    "2147483648",
+    "-2147483647",
+    "-2147483648",
+    "-2147483649",
+    "4294967295",
+    "9999999999",
+    "10000000000",
+    "-0",
+    "00",
+    "-01",
+    "+1",
+];
+
+/// One script, lines with their ends.
+pub fn script(random: &mut Random) -> Vec<u8> {
+    match random.below(4) {
+        0 => odd_lines(random),
+        _ => session(random),
+    }
+}
+
+/// A session as tasks would hold it, with odd lines in between now and then.
+fn session(random: &mut Random) -> Vec<u8> {
+    let n = match random.below(4) {
+        0 => 2 + random.below(31),
+        _ => 2 + random.below(4),
+    };
+    let sociable = !random.one_in(3);
+    let mut pace = Pace::default();
+    let mut desk = Desk::new(n).expect("2 to 32 parties");
+    let mut script = format!("n {n}\n").into_bytes();
+    for _ in 0..20 + random.below(300) {
+        if random.one_in(40) {
+            script.extend(odd_line(random));
+        }
+        let party = pace.party(random, &desk);
+        let call = next_call(random, &desk, party, sociable);
+        // Whether it is refused is for the two programs to say.
+        let _ = in_model(&mut desk, &call);
+        script.extend(line(&call).into_bytes());
+        script.push(b'\n');
+    }
+    script
+}
+
+fn next_call(random: &mut Random, desk: &Desk, party: usize, sociable: bool) -> Call {
+    if random.one_in(10) {
+        return draw::call(random, desk.n);
+    }
+    match desk.parties[party].place {
+        Place::Idle if sociable => {
+            let guards = draw::sociable_list(random, party, desk.n);
+            Call::Offer { party, guards }
+        }
+        Place::Idle => draw::offer(random, party, desk.n),
+        Place::Met(_) => Call::Collect { party },
+        _ => match in_model(&mut desk.clone(), &Call::Movers) {
+            Ok(Given::Set(0)) => draw::call(random, desk.n),
+            _ => Call::Step { party },
+        },
+    }
+}
+
+fn odd_lines(random: &mut Random) -> Vec<u8> {
+    let mut script = Vec::new();
+    for _ in 0..1 + random.below(30) {
+        script.extend(odd_line(random));
+    }
+    script
+}
+
+/// A line of well-formed parts that need not fit together.
+fn odd_line(random: &mut Random) -> Vec<u8> {
+    let number = random.pick(&NUMBERS);
+    let mut line = match random.below(8) {
+        0 => format!("n {number}"),
+        1 => format!("s {number}"),
+        2 => format!("c {number}"),
+        3 => "m".to_string(),
+        4 => String::new(),
+        5 => return long_line(random),
+        _ => {
+            let guards: String = (0..random.below(11)).map(|_| odd_guard(random)).collect();
+            format!("o {number}{guards}")
+        }
+    };
+    line.push('\n');
+    line.into_bytes()
+}
+
+fn odd_guard(random: &mut Random) -> String {
+    let sign = random.pick(&["", "", "", "-", "--"]);
+    let partner = random.pick(&NUMBERS);
+    let action = match random.below(8) {
+        0..=2 => "?".to_string(),
+        3 => "!0".to_string(),
+        4 => format!("!w{}", random.pick(&WHOLES)),
+        5 => format!("!r{}", digits(random, 8)),
+        6 => format!("!l{}", digits(random, 16)),
+        _ => random
+            .pick(&["!", "?0", "!00", "!r", "!x", "", "!w", "?!0"])
+            .to_string(),
+    };
+    format!(" {sign}{partner}{action}")
+}
+
+/// Hexadecimal digits, now and then one too few, too many or in upper case.
+fn digits(random: &mut Random, count: usize) -> String {
+    let count = match random.below(12) {
+        0 => count - 1,
+        1 => count + 1,
+        _ => count,
+    };
+    let kind = random.below(12);
+    let text: String = (0..count.div_ceil(8))
+        .map(|_| match kind {
+            0 => format!("{:08x}", random.pick(&draw::NANS)),
+            _ => format!("{:08x}", random.bits()),
+        })
+        .collect();
+    let text = text + "0";
+    match kind {
+        1 => text[..count].to_uppercase(),
+        _ => text[..count].to_string(),
+    }
+}
+
+/// A line about as long as a line may be, or much longer.
+fn long_line(random: &mut Random) -> Vec<u8> {
+    let length = match random.below(6) {
+        0 => 1000 + random.below(5000),
+        1 => random.pick(&[255, 256, 257, 400, 4095, 4096, 4097, 65_536]),
+        _ => 198 + random.below(5),
+    };
+    let mut line = match random.below(3) {
+        0 => b"o 0 1!w-2147483648 1!l000000007f800000".to_vec(),
+        1 => b"m".to_vec(),
+        _ => b"s 0".to_vec(),
+    };
+    let filler: &[u8] = random.pick(&[b" 1?" as &[u8], b" ", b"0", b"x", b"\0", b" -1!0"]);
+    while line.len() < length {
+        line.extend(filler);
+    }
+    line.truncate(length);
+    line.push(b'\n');
+    line
+}
+
+#[cfg(test)]
+mod tests {
+    use super::*;
+
+    #[test]
+    fn long_lines_lie_on_both_sides_of_the_bound() {
+        let mut random = Random::new(3);
+        let lengths: Vec<usize> = (0..200).map(|_| long_line(&mut random).len() - 1).collect();
+        for wanted in [199, 200, 201] {
+            assert!(lengths.contains(&wanted));
+        }
+    }
+
+    #[test]
+    fn sessions_bring_rendezvous_and_collections() {
+        let mut random = Random::new(4);
+        let collected = (0..40).any(|_| {
+            let output = model::script::run(&session(&mut random));
+            output
+                .split(|&byte| byte == b'\n')
+                .any(|line| line.starts_with(b"c "))
+        });
+        assert!(collected);
+    }
+}
