@@ -2,6 +2,7 @@
 use crate::Action;
 use crate::Found;
 use crate::Guard;
+use crate::lists::held;
 ghost use mathlib.Core.Path.{_≡_};
 ghost use lib.ListN.{take};
 ghost use Rattle.alternative.specs.Guards.{opposite, guardsMatch, anyGuard, firstMatch, nextEnabled};
@@ -34,11 +35,9 @@ pub fn guards_match(p: u8, g: Guard, q: u8, h: Guard) -> bool
 pub fn first_match(p: u8, g: Guard, q: u8, list: [Guard; 8], count: usize) -> Found
     ensures { λ r. ⌜ r ≡ firstMatch p g q (take count list) ⌝ }
 {
+    let end = held(count);
     let mut k: usize = 0;
-    while k < count {
-        if 8 <= k {
-            return Found::Missing;
-        }
+    while k < end {
         let h = list[k];
         if guards_match(p, g, q, h) {
             return Found::At(k as u8);
@@ -52,11 +51,9 @@ pub fn first_match(p: u8, g: Guard, q: u8, list: [Guard; 8], count: usize) -> Fo
 pub fn next_enabled(list: [Guard; 8], count: usize, from: usize) -> Found
     ensures { λ r. ⌜ r ≡ nextEnabled (take count list) from ⌝ }
 {
+    let end = held(count);
     let mut k: usize = from;
-    while k < count {
-        if 8 <= k {
-            return Found::Missing;
-        }
+    while k < end {
         let h = list[k];
         if h.enabled {
             return Found::At(k as u8);
@@ -70,11 +67,9 @@ pub fn next_enabled(list: [Guard; 8], count: usize, from: usize) -> Found
 pub fn any_enabled(list: [Guard; 8], count: usize) -> bool
     ensures { λ r. ⌜ r ≡ anyGuard (λ g. g .enabled) (take count list) ⌝ }
 {
+    let end = held(count);
     let mut k: usize = 0;
-    while k < count {
-        if 8 <= k {
-            return false;
-        }
+    while k < end {
         let g = list[k];
         if g.enabled {
             return true;

@@ -1,6 +1,6 @@
 -- Who can change whom: of the partner's record a rule changes the wake count and the signal alone; and whom a record that fits can name.
 use Prim.Native.Nat.{ℕ, zero, suc, _<_}
-use mathlib.Core.Path.{_≡_, refl}
+use mathlib.Core.Path.{_≡_, refl, ap}
 use mathlib.Core.Bool.{Bool, true, false, not, _&&_}
 use mathlib.Core.List.{List, [], _∷_}
 use mathlib.Core.Option.{Option, some, none}
@@ -12,7 +12,8 @@ use Rattle.alternative.proofs.Tests.{and-parts}
 use Rattle.process.specs.Types.{Guard, Found, At, Missing, Signal, Absent, Present, Place, Idle, Entering, Scanning, Trying, Committed, Posting, Opening, Showing, Asleep, Waiting, Met, State, Running, Alt, Sleeping, Process}
 use Rattle.process.specs.Process.{stateOf, indexOf, ownList, postedList, ownGuard}
 use Rattle.process.specs.Rules.{Effect, Neither, Own, Both, changed, scanFrom, scan, try, handOver, absorb, ruleAt, rule, namedBy, partnerOf}
-use Rattle.process.specs.Fits.{allGuards, partnerFits, listFits, processFits}
+use Rattle.process.specs.Fits.{allGuards, partnerFits, listFits, signalFits, placeFits, processFits}
+use Rattle.process.specs.Private.{committedAt}
 
 abbrev pub Kept : Process → Effect → Type 0
 Kept y Neither = Unit {0}
@@ -57,6 +58,25 @@ at-kept p x q y (Met i m) = tt
 pub rule-kept : (p : ℕ) (x : Process) (q : ℕ) (y : Process) → Kept y (rule p x q y)
 unfolding rule
 rule-kept p x q y = at-kept p x q y (x .place)
+
+-- a record's test asks for what its partner has posted at C alone
+pub fits-committed : (n p : ℕ) (x : Process) (posted : ℕ → ℕ) → processFits n p x (posted (committedAt x (x .place))) ≡ processFits n p x (posted (partnerOf x))
+unfolding processFits
+fits-committed n p x posted =
+    ap (λ (b : Bool). listFits n p (x .count) (x .guards) && (listFits n p (x .altcount) (x .altlist) && (signalFits (x .count) (x .signal) && b))) (go (x .place))
+  where
+    go : (place : Place) → placeFits (x .count) (posted (committedAt x place)) place ≡ placeFits (x .count) (posted (namedBy x (indexOf place))) place
+    go (Committed i j) = refl
+    go Idle = refl
+    go Entering = refl
+    go (Scanning i) = refl
+    go (Trying i) = refl
+    go Posting = refl
+    go Opening = refl
+    go Showing = refl
+    go Asleep = refl
+    go Waiting = refl
+    go (Met i m) = refl
 
 -- guards that fit, and a blank one, name a process below n
 named-below : (n p : ℕ) (gs : List Guard) (i : ℕ) → 0 < n → allGuards (partnerFits n p) gs ≡ true → getD gs i blank .partner < n

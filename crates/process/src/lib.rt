@@ -62,9 +62,11 @@ pub struct Process {
     pub altlist: [Guard; 8],
 }
 
-// What a rule leaves: whether anything changed, the own record, and the partner's wake count and signal.
+// What a rule leaves: whether anything changed, and whether the partner's record did; the own record, and the partner's wake count
+// and signal.
 pub struct Change {
     pub moved: bool,
+    pub told: bool,
     pub own: Process,
     pub accepting: bool,
     pub signal: Signal,

@@ -10,6 +10,7 @@ ghost use lib.ListN.{take, getD};
 ghost use Rattle.alternative.specs.Guards.{blank};
 ghost use Rattle.process.specs.Process.{freshProcess};
 ghost use Rattle.process.specs.Rules.{changed, atPlace, partnerOf};
+ghost use Rattle.process.specs.Private.{committedAt};
 
 // Guard i of a list of `count` guards, or a blank one past its end.
 pub fn guard_at(count: u8, guards: [Guard; 8], i: u8) -> Guard
@@ -57,6 +58,28 @@ impl Process {
             Place::Committed(i, _) => guard_at(self.count, guards, i).partner,
             Place::Idle => 0,
             Place::Entering => 0,
+            Place::Posting => 0,
+            Place::Opening => 0,
+            Place::Showing => 0,
+            Place::Asleep => 0,
+            Place::Waiting => 0,
+            Place::Met(_, _) => 0,
+        }
+    }
+
+    // The process that the guard at C names, and 0 elsewhere: its posted list is the one that the kept index is held against. At A and T
+    // no test of a record needs the partner, and so its list is not read there.
+    pub fn committed_to(self) -> u8
+        ensures { λ r. ⌜ r ≡ committedAt self (self .place) ⌝ }
+    {
+        let place = self.place;
+        let guards = self.guards;
+        match place {
+            Place::Committed(i, _) => guard_at(self.count, guards, i).partner,
+            Place::Idle => 0,
+            Place::Entering => 0,
+            Place::Scanning(_) => 0,
+            Place::Trying(_) => 0,
             Place::Posting => 0,
             Place::Opening => 0,
             Place::Showing => 0,

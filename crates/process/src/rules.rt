@@ -25,6 +25,7 @@ fn stay(x: Process, y: Process) -> Change
     let signal = y.signal;
     Change {
         moved: false,
+        told: false,
         own: x,
         accepting: y.accepting,
         signal: signal,
@@ -38,6 +39,7 @@ fn go(own: Process, y: Process) -> Change
     let signal = y.signal;
     Change {
         moved: true,
+        told: false,
         own: own,
         accepting: y.accepting,
         signal: signal,
@@ -95,6 +97,7 @@ fn try_guard(p: u8, x: Process, q: u8, y: Process, i: u8) -> Change
             let signal = y.signal;
             Change {
                 moved: true,
+                told: true,
                 own: x.at_place(Place::Committed(i, j)),
                 accepting: false,
                 signal: signal,
@@ -115,6 +118,7 @@ fn hand_over(x: Process, y: Process, i: u8, j: u8) -> Change
     let kept = h.action;
     Change {
         moved: true,
+        told: true,
         own: x.at_place(Place::Met(i, received(own, kept))),
         accepting: y.accepting,
         signal: Signal::Present(j, sent(own)),

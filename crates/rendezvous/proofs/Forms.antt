@@ -12,8 +12,9 @@ use borrow.Author.Tests.{ltb-true, ltb-false, leb-true}
 use Rattle.rendezvous.specs.declared.ProcessTable.{ProcessTable}
 use Rattle.rendezvous.specs.Table.{mostProcesses, process}
 use Rattle.process.specs.Process.{nobody}
-use Rattle.process.specs.Rules.{partnerOf}
 use Rattle.process.specs.Fits.{processFits}
+use Rattle.process.specs.Private.{committedAt}
+use Rattle.process.proofs.Kept.{fits-committed}
 use Rattle.alternative.proofs.Tests.{and-parts}
 use Rattle.rendezvous.specs.WellFormed.{allBelow, countFits, fitsAt, wellFormed}
 
@@ -36,11 +37,11 @@ pub formed-fits : (t : ProcessTable) (p : ℕ) → wellFormed t ≡ true → p <
 unfolding wellFormed
 formed-fits t p e h = all-at (fitsAt t) p (t .n) h (and-parts (countFits (t .n)) (allBelow (fitsAt t) (t .n)) e .1)
 
--- the test of process p, from its partner and the number of guards that one has posted
-pub fits-by-parts : (t : ProcessTable) (p q altcount : ℕ) (r : Bool) → q ≡ partnerOf (process t p) → altcount ≡ process t q .altcount
+-- the test of process p, from the process that it is committed to and the number of guards that one has posted
+fits-by-parts : (t : ProcessTable) (p q altcount : ℕ) (r : Bool) → q ≡ committedAt (process t p) (process t p .place) → altcount ≡ process t q .altcount
     → r ≡ processFits (t .n) p (process t p) altcount → fitsAt t p ≡ r
 unfolding fitsAt
-fits-by-parts t p q altcount r d e f = rw (f, e, d)
+fits-by-parts t p q altcount r d e f = rw (f, e, d) (sym (fits-committed (t .n) p (process t p) (λ j. process t j .altcount)))
 
 -- how many guards the partner has posted, as the code reads it
 posted-read : (t : ProcessTable) (q : ℕ) → length (t .processes) ≡ 32 → cond (ltb q 32) (process t (q % 32) .altcount) 0 ≡ process t q .altcount
@@ -53,7 +54,7 @@ posted-read t q long = go (ltb q 32) refl
 -- One turn of the loop that tests a table: `formed` says that n is right and the processes below k fit. Where n is wrong, what is read does not count.
 pub formed-more : (t : ProcessTable) (k : ℕ) (formed : Bool) (q altcount : ℕ) (fits : Bool) → length (t .processes) ≡ 32 → k < t .n
     → formed ≡ (countFits (t .n) && allBelow (fitsAt t) k)
-    → q ≡ partnerOf (process t (k % 32)) → altcount ≡ cond (ltb q 32) (process t (q % 32) .altcount) 0 → fits ≡ processFits (t .n) k (process t (k % 32)) altcount
+    → q ≡ committedAt (process t (k % 32)) (process t (k % 32) .place) → altcount ≡ cond (ltb q 32) (process t (q % 32) .altcount) 0 → fits ≡ processFits (t .n) k (process t (k % 32)) altcount
     → (formed && fits) ≡ (countFits (t .n) && allBelow (fitsAt t) (k + 1))
 unfolding allBelow
 formed-more t k formed q altcount fits long below e f g h = rw (e, add-one) (go (countFits (t .n)) refl)

@@ -1,7 +1,7 @@
 -- Laws of a step and a collection. The code reads and writes the records at p % 32 and q % 32, which are those of p and its partner where p is a process.
 use Prim.Native.Nat.{ℕ, _<_, _%_}
 use mathlib.Core.Path.{_≡_, refl, sym, ap, _∙_}
-use mathlib.Core.Bool.{Bool, true, cond}
+use mathlib.Core.Bool.{Bool, true, false, cond, false≢true}
 use mathlib.Core.List.{List}
 use native.Mathlib.Nat.{mod-eq-of-lt}
 use native.Mathlib.Omega.{arith}
@@ -24,26 +24,32 @@ use Rattle.rendezvous.specs.Calls.{refused, effectOn, applied, stepped, 
 use Rattle.rendezvous.proofs.Forms.{formed-most, formed-fits}
 use Rattle.rendezvous.proofs.Verdicts.{process-passed}
 
--- an effect in the form of the code, written back: the partner first, then the process that steps; where nothing changed, what was read is written again
-written : (t : ProcessTable) (p q : ℕ) (e : Effect) → Kept (process t q) e → (c : Change) (told : Process) → c ≡ changeOf (process t p) (process t q) e
-    → told ≡ changed (process t q) (process t q .place) (c .signal) (c .accepting)
-    → record { answer = cond (c .moved) (Moved (c .own .place)) Unchanged; table = put (put t q told) p (c .own) } ≡ applied t p q e
-written t p q e k c told f g = rw (g, f) (go e k)
-  where
-    own : Answer → Process → List Process → Reply
-    own answer x l = record { answer = answer; table = record { n = t .n; next = t .next; processes = set l p x } }
+-- an effect in the form of the code, written back: the partner first, where its record changed, then the process that steps; where nothing changed, what was read
+-- is written again
+module _ (t : ProcessTable) (p q : ℕ) where
+  abbrev reply : Change → ProcessTable → Reply
+  reply c u = record { answer = cond (c .moved) (Moved (c .own .place)) Unchanged; table = put u p (c .own) }
 
-    again : set (t .processes) q (process t q) ≡ t .processes
-    again = set-getD (t .processes) q nobody
+  written-both : (e : Effect) → Kept (process t q) e → (c : Change) (told : Process) → c ≡ changeOf (process t p) (process t q) e
+      → told ≡ changed (process t q) (process t q .place) (c .signal) (c .accepting) → c .told ≡ true → reply c (put t q told) ≡ applied t p q e
+  written-both e k c told f g h = rw (g, f) (go e k (ap (λ (d : Change). d .told) (sym f) ∙ h))
+    where
+      go : (e : Effect) → Kept (process t q) e → let d = changeOf (process t p) (process t q) e in
+          d .told ≡ true → reply d (put t q (changed (process t q) (process t q .place) (d .signal) (d .accepting))) ≡ applied t p q e
+      go Neither k z = absurd (false≢true z)
+      go (Own x) k z = absurd (false≢true z)
+      go (Both x y) k z = rw k
 
-    go : (e : Effect) → Kept (process t q) e → let d = changeOf (process t p) (process t q) e in
-        record { answer = cond (d .moved) (Moved (d .own .place)) Unchanged; table = put (put t q (changed (process t q) (process t q .place) (d .signal) (d .accepting))) p (d .own) } ≡ applied t p q e
-    go Neither k = ap (own Unchanged (process t p)) again ∙ ap (λ (l : List Process). with-list l) (set-getD (t .processes) p nobody)
-      where
-        with-list : List Process → Reply
-        with-list l = record { answer = Unchanged; table = record { n = t .n; next = t .next; processes = l } }
-    go (Own x) k = ap (own (Moved (x .place)) x) again
-    go (Both x y) k = rw k
+  written-own : (e : Effect) (c : Change) → c ≡ changeOf (process t p) (process t q) e → c .told ≡ false → reply c t ≡ applied t p q e
+  written-own e c f h = rw f (go e (ap (λ (d : Change). d .told) (sym f) ∙ h))
+    where
+      with-list : List Process → Reply
+      with-list l = record { answer = Unchanged; table = record { n = t .n; next = t .next; processes = l } }
+
+      go : (e : Effect) → changeOf (process t p) (process t q) e .told ≡ false → reply (changeOf (process t p) (process t q) e) t ≡ applied t p q e
+      go Neither z = ap with-list (set-getD (t .processes) p nobody)
+      go (Own x) z = refl
+      go (Both x y) z = absurd (false≢true (sym z))
 
 -- a process that fits, and its partner, below n
 partner-inside : (t : ProcessTable) (p : ℕ) → fitsAt t p ≡ true → 0 < t .n → partnerOf (process t p) < t .n
@@ -80,12 +86,18 @@ module _ (t : ProcessTable) (p : ℕ) (accepted : processVerdict t p ≡ Accepte
   effect : c ≡ changeOf (process t p) (process t q) (rule p (process t p) q (process t q))
   effect = rw (inside t p accepted .own, q-inside) at e
 
-  pub step-accepted : (told : Process) → told ≡ changed (process t (q % 32)) (process t (q % 32) .place) (c .signal) (c .accepting) → (answer : Answer)
-      → answer ≡ cond (c .moved) (Moved (c .own .place)) Unchanged → record { answer = answer; table = put (put t (q % 32) told) (p % 32) (c .own) } ≡ step t p
+  pub step-both : (told : Process) → told ≡ changed (process t (q % 32)) (process t (q % 32) .place) (c .signal) (c .accepting) → c .told ≡ true
+      → (u : ProcessTable) → u ≡ put t (q % 32) told → (answer : Answer) → answer ≡ cond (c .moved) (Moved (c .own .place)) Unchanged
+      → record { answer = answer; table = put u (p % 32) (c .own) } ≡ step t p
   unfolding step stepped effectOn
-  step-accepted told f answer g =
-      rw (g, accepted, inside t p accepted .own, q-inside, ← at-q)
-      (written t p q (rule p (process t p) q (process t q)) (rule-kept p (process t p) q (process t q)) c told effect (rw q-inside at f))
+  step-both told f h u v answer g =
+      rw (g, v, accepted, inside t p accepted .own, q-inside, ← at-q)
+      (written-both t p q (rule p (process t p) q (process t q)) (rule-kept p (process t p) q (process t q)) c told effect (rw q-inside at f) h)
+
+  pub step-own : c .told ≡ false → (u : ProcessTable) → u ≡ t → (answer : Answer) → answer ≡ cond (c .moved) (Moved (c .own .place)) Unchanged
+      → record { answer = answer; table = put u (p % 32) (c .own) } ≡ step t p
+  unfolding step stepped effectOn
+  step-own h u v answer g = rw (g, v, accepted, inside t p accepted .own, ← at-q) (written-own t p q (rule p (process t p) q (process t q)) c effect h)
 
 pub step-refused : (t : ProcessTable) (p : ℕ) (r : Refusal) → processVerdict t p ≡ Verdict.Refused r → record { answer = Answer.Refused r; table = t } ≡ step t p
 unfolding step

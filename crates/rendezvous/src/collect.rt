@@ -26,7 +26,7 @@ impl ProcessTable {
         while k < n {
             let at = (k % 32) as usize;
             let z = t.processes[at];
-            let named = z.partner();
+            let named = z.committed_to();
             let there = (named % 32) as usize;
             let posted = t.processes[there].altcount;
             formed = formed & process_fits(n, k, z, posted_by(named, posted));
@@ -35,27 +35,21 @@ impl ProcessTable {
         let i = (p % 32) as usize;
         let x = t.processes[i];
         let place = x.place;
-        match process_verdict(formed, n, p) {
-            Verdict::Refused(refusal) => Reply {
-                answer: Answer::Refused(refusal),
-                table: t,
-            },
+        let answer = match process_verdict(formed, n, p) {
+            Verdict::Refused(refusal) => Answer::Refused(refusal),
             Verdict::Accepted => match place.outcome() {
-                Signal::Absent => Reply {
-                    answer: Answer::Refused(Refusal::NotMet),
-                    table: t,
-                },
+                Signal::Absent => Answer::Refused(Refusal::NotMet),
                 Signal::Present(index, m) => {
                     let guards = x.guards;
                     let g = guard_at(x.count, guards, index);
-                    let y = x.at_place(Place::Idle);
-                    t.processes[i] = y;
-                    Reply {
-                        answer: Answer::Collected(index, g.partner, m),
-                        table: t,
-                    }
+                    t.processes[i] = x.at_place(Place::Idle);
+                    Answer::Collected(index, g.partner, m)
                 }
             },
+        };
+        Reply {
+            answer: answer,
+            table: t,
         }
     }
 }

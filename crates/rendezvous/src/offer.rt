@@ -140,7 +140,7 @@ impl ProcessTable {
         while k < n {
             let at = (k % 32) as usize;
             let z = t.processes[at];
-            let named = z.partner();
+            let named = z.committed_to();
             let there = (named % 32) as usize;
             let posted = t.processes[there].altcount;
             formed = formed & process_fits(n, k, z, posted_by(named, posted));
@@ -150,21 +150,19 @@ impl ProcessTable {
         let x = t.processes[i];
         let place = x.place;
         let next = t.next;
-        match offer_verdict(formed, n, p, list, place, next) {
-            Verdict::Refused(refusal) => Reply {
-                answer: Answer::Refused(refusal),
-                table: t,
-            },
+        let answer = match offer_verdict(formed, n, p, list, place, next) {
+            Verdict::Refused(refusal) => Answer::Refused(refusal),
             Verdict::Accepted => {
                 let y = entered(x, next, list);
                 let following = TransactionId(next.0 + 1);
                 t.processes[i] = y;
                 t.next = following;
-                Reply {
-                    answer: Answer::Offered(next),
-                    table: t,
-                }
+                Answer::Offered(next)
             }
+        };
+        Reply {
+            answer: answer,
+            table: t,
         }
     }
 }

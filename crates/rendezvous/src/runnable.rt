@@ -22,35 +22,34 @@ impl ProcessTable {
         while k < n {
             let at = (k % 32) as usize;
             let z = t.processes[at];
-            let named = z.partner();
+            let named = z.committed_to();
             let there = (named % 32) as usize;
             let posted = t.processes[there].altcount;
             formed = formed & process_fits(n, k, z, posted_by(named, posted));
             k = k + 1;
         }
-        if !formed {
-            return Reply {
-                answer: Answer::Refused(Refusal::NotWellFormed),
-                table: t,
-            };
-        }
-        let mut set: u64 = 0;
-        let mut bit: u64 = 1;
-        let mut p: u8 = 0;
-        while p < n {
-            let i = (p % 32) as usize;
-            let x = t.processes[i];
-            let q = x.partner();
-            let k = (q % 32) as usize;
-            let y = t.processes[k];
-            if would_change(x, y) {
-                set = set + bit;
+        let answer = if formed {
+            let mut set: u64 = 0;
+            let mut bit: u64 = 1;
+            let mut p: u8 = 0;
+            while p < n {
+                let i = (p % 32) as usize;
+                let x = t.processes[i];
+                let q = x.partner();
+                let j = (q % 32) as usize;
+                let y = t.processes[j];
+                if would_change(x, y) {
+                    set = set + bit;
+                }
+                bit = bit * 2;
+                p = p + 1;
             }
-            bit = bit * 2;
-            p = p + 1;
-        }
+            Answer::Runnable(set as u32)
+        } else {
+            Answer::Refused(Refusal::NotWellFormed)
+        };
         Reply {
-            answer: Answer::Runnable(set as u32),
+            answer: answer,
             table: t,
         }
     }

@@ -36,7 +36,7 @@ impl ProcessTable {
         while k < n {
             let at = (k % 32) as usize;
             let z = t.processes[at];
-            let named = z.partner();
+            let named = z.committed_to();
             let there = (named % 32) as usize;
             let posted = t.processes[there].altcount;
             formed = formed & process_fits(n, k, z, posted_by(named, posted));
@@ -47,23 +47,24 @@ impl ProcessTable {
         let q = x.partner();
         let j = (q % 32) as usize;
         let y = t.processes[j];
-        match process_verdict(formed, n, p) {
-            Verdict::Refused(refusal) => Reply {
-                answer: Answer::Refused(refusal),
-                table: t,
-            },
+        let answer = match process_verdict(formed, n, p) {
+            Verdict::Refused(refusal) => Answer::Refused(refusal),
             Verdict::Accepted => {
                 let c = rule(p, x, q, y);
                 let own = c.own;
                 let place = own.place;
                 let signal = c.signal;
-                t.processes[j] = y.told(c.accepting, signal);
-                t.processes[i] = own;
-                Reply {
-                    answer: moved_answer(c.moved, place),
-                    table: t,
+                if c.told {
+                    let partner = t.processes[j];
+                    t.processes[j] = partner.told(c.accepting, signal);
                 }
+                t.processes[i] = own;
+                moved_answer(c.moved, place)
             }
+        };
+        Reply {
+            answer: answer,
+            table: t,
         }
     }
 }

@@ -26,11 +26,11 @@ impl ProcessTable {
         let mut k: u8 = 0;
         while k < n {
             let at = (k % 32) as usize;
-            let x = self.processes[at];
-            let q = x.partner();
-            let named = (q % 32) as usize;
-            let posted = self.processes[named].altcount;
-            formed = formed & process_fits(n, k, x, posted_by(q, posted));
+            let z = self.processes[at];
+            let named = z.committed_to();
+            let there = (named % 32) as usize;
+            let posted = self.processes[there].altcount;
+            formed = formed & process_fits(n, k, z, posted_by(named, posted));
             k = k + 1;
         }
         formed

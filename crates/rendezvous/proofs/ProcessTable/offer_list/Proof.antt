@@ -26,7 +26,7 @@ loop-again c =
     let l = c .before .before .before .before .before in (
       omega arith,
       l .loop .inv .1,
-      formed-more _ (l .loop .k) _ _ _ _ (l .loop .inv .1) (omega arith) (l .loop .inv .2) (c .before .before .partner .ensures) (c .before .posted-by .ensures) (c .process-fits .ensures),
+      formed-more _ (l .loop .k) _ _ _ _ (l .loop .inv .1) (omega arith) (l .loop .inv .2) (c .before .before .committed-to .ensures) (c .before .posted-by .ensures) (c .process-fits .ensures),
     )
 
 -- the verdict of the tests is that of the offer
@@ -37,7 +37,7 @@ entered-requires c κs =
     let formed = formed-end _ (l .loop .k) _ (omega arith) (l .loop .inv .2) in
     offer-passed _ _ _ (offer-asked _ _ _ _ _ formed (v .offer-verdict .ensures) ∙ c .enum-told .given .1) .most
 
-add-next : tie.Need-add-t37 Inv-loop μ-loop
+add-next : tie.Need-add-t36 Inv-loop μ-loop
 add-next c =
     let v = c .before .before .before .before in
     let l = v .before .before .before .before in

@@ -5,7 +5,6 @@ use mathlib.Core.Bool.{_&&_}
 use native.Mathlib.Nat.{pow-le-pow-right}
 use native.Mathlib.Omega.{arith}
 use borrow.Author.Needs.{needs}
-use borrow.Author.Tests.{not-true, not-false}
 use lib.ListN.{length}
 use Rattle.process.specs.Rules.{changes}
 use Rattle.rendezvous.specs.WellFormed.{allBelow, countFits, fitsAt}
@@ -38,19 +37,14 @@ loop-again c =
     let l = c .before .before .before .before .before in (
       omega arith,
       l .loop .inv .1,
-      formed-more _ (l .loop .k) _ _ _ _ (l .loop .inv .1) (omega arith) (l .loop .inv .2) (c .before .before .partner .ensures) (c .before .posted-by .ensures) (c .process-fits .ensures),
+      formed-more _ (l .loop .k) _ _ _ _ (l .loop .inv .1) (omega arith) (l .loop .inv .2) (c .before .before .committed-to .ensures) (c .before .posted-by .ensures) (c .process-fits .ensures),
     )
-
-returns : tie.Need-returns Inv-loop μ-loop Inv-loop2 μ-loop2
-returns c =
-    let l = c .before .before in
-    runnable-refused _ (sym (formed-end _ (l .loop .k) _ (omega arith) (l .loop .inv .2)) ∙ not-true _ (c .if1 .taken))
 
 loop2-holds : tie.Need-loop2-holds Inv-loop μ-loop Inv-loop2 μ-loop2
 unfolding setBelow
 loop2-holds c =
     let l = c .before .before in
-    let formed = sym (formed-end _ (l .loop .k) _ (omega arith) (l .loop .inv .2)) ∙ not-false _ (c .if1 .left) in
+    let formed = sym (formed-end _ (l .loop .k) _ (omega arith) (l .loop .inv .2)) ∙ c .if1 .taken in
     (omega arith, formed-most _ formed, refl, refl)
 
 add-set : tie.Need-add-set Inv-loop μ-loop Inv-loop2 μ-loop2
@@ -69,8 +63,8 @@ loop2-again c =
     let w = c .before in
     let m = w .before .before .before .before .before in
     let l = m .before .before .before in
-    let formed = sym (formed-end _ (l .loop .k) _ (omega arith) (l .loop .inv .2)) ∙ not-false _ (m .before .if1 .left) in
-    let member = member-read _ (m .loop2 .p) _ _ formed (omega arith) (w .before .before .partner2 .ensures) (w .would-change .ensures) in (
+    let formed = sym (formed-end _ (l .loop .k) _ (omega arith) (l .loop .inv .2)) ∙ m .before .if1 .taken in
+    let member = member-read _ (m .loop2 .p) _ _ formed (omega arith) (w .before .before .partner .ensures) (w .would-change .ensures) in (
       omega arith,
       m .loop2 .inv .1,
       ⊎-elim (λ a. a .1 ∙ set-with _ (m .loop2 .p) _ _ (member ∙ a .0 .taken) (m .loop2 .inv .2) (m .loop2 .inv .3))
@@ -78,18 +72,23 @@ loop2-again c =
       bit-more (m .loop2 .p) _ (m .loop2 .inv .3),
     )
 
-cast-set : tie.Need-cast-t40 Inv-loop μ-loop Inv-loop2 μ-loop2
+cast-set : tie.Need-cast-t39 Inv-loop μ-loop Inv-loop2 μ-loop2
 cast-set c =
     let l = c .before in
     let t = l .before .before .before .before .before .args .self in
     omega (arith, l .loop2 .inv .2, set-below (λ r. changes (effectOn t r)) (l .loop2 .p), bit-fits (l .loop2 .p) (omega arith))
 
-returns-2 : tie.Need-returns-2 Inv-loop μ-loop Inv-loop2 μ-loop2
-returns-2 c =
+returns : tie.Need-returns Inv-loop μ-loop Inv-loop2 μ-loop2
+returns c =
     let m = c .before in
     let l = m .before .before .before in
-    let formed = sym (formed-end _ (l .loop .k) _ (omega arith) (l .loop .inv .2)) ∙ not-false _ (m .before .if1 .left) in
+    let formed = sym (formed-end _ (l .loop .k) _ (omega arith) (l .loop .inv .2)) ∙ m .before .if1 .taken in
     runnable-gives _ _ (m .loop2 .p) formed (omega arith) (m .loop2 .inv .2)
+
+returns-2 : tie.Need-returns-2 Inv-loop μ-loop Inv-loop2 μ-loop2
+returns-2 c =
+    let l = c .before .before in
+    runnable-refused _ (sym (formed-end _ (l .loop .k) _ (omega arith) (l .loop .inv .2)) ∙ c .if1 .left)
 
 pub runnable-spec : {M : Type 1} → statement M
 runnable-spec =
@@ -113,7 +112,6 @@ runnable-spec =
     (λ c. omega arith)
     (λ c. omega arith)
     loop-again
-    returns
     loop2-holds
     (λ c. omega arith)
     (λ c. omega arith)
@@ -129,4 +127,5 @@ runnable-spec =
     (λ c. omega arith)
     loop2-again
     cast-set
+    returns
     returns-2)

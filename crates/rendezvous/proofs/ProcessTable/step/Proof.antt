@@ -1,4 +1,5 @@
 use Prim.Native.Nat.{_≤_, _-_}
+use mathlib.Core.Logic.{⊎-elim}
 use mathlib.Core.Path.{_≡_, _∙_}
 use mathlib.Core.Bool.{_&&_}
 use native.Mathlib.Omega.{arith}
@@ -7,7 +8,7 @@ use lib.ListN.{length}
 use Rattle.rendezvous.specs.WellFormed.{allBelow, countFits, fitsAt}
 use Rattle.rendezvous.proofs.Forms.{formed-start, formed-more, formed-end}
 use Rattle.rendezvous.proofs.Lengths.{length-mapped}
-use Rattle.rendezvous.proofs.Steps.{process-asked, step-refused, step-accepted}
+use Rattle.rendezvous.proofs.Steps.{process-asked, step-refused, step-both, step-own}
 use Rattle.rendezvous.proofs.ProcessTable.step.Statement.{statement}
 use Rattle.rendezvous.proofs.ProcessTable.step.Tie as tie
 
@@ -25,7 +26,7 @@ loop-again c =
     let l = c .before .before .before .before .before in (
       omega arith,
       l .loop .inv .1,
-      formed-more _ (l .loop .k) _ _ _ _ (l .loop .inv .1) (omega arith) (l .loop .inv .2) (c .before .before .partner .ensures) (c .before .posted-by .ensures) (c .process-fits .ensures),
+      formed-more _ (l .loop .k) _ _ _ _ (l .loop .inv .1) (omega arith) (l .loop .inv .2) (c .before .before .committed-to .ensures) (c .before .posted-by .ensures) (c .process-fits .ensures),
     )
 
 returns : tie.Need-returns Inv-loop μ-loop
@@ -42,7 +43,10 @@ returns-2 c =
     let l = v .before .before .before .before .before in
     let formed = formed-end _ (l .loop .k) _ (omega arith) (l .loop .inv .2) in
     let accepted = process-asked _ _ _ _ formed (v .process-verdict .ensures) ∙ r .before .enum-told .given .1 in
-    step-accepted _ _ accepted _ (v .before .before .partner2 .ensures) _ (r .rule .ensures) _ (c .before .told .ensures) _ (c .moved-answer .ensures)
+    ⊎-elim
+    (λ a. step-both _ _ accepted _ (v .before .before .partner .ensures) _ (r .rule .ensures) _ (a .2 .ensures) (a .0 .taken) _ (a .3) _ (c .moved-answer .ensures))
+    (λ a. step-own _ _ accepted _ (v .before .before .partner .ensures) _ (r .rule .ensures) (a .0 .left) _ (a .1) _ (c .moved-answer .ensures))
+    (c .before .if1 .came)
 
 pub step-spec : {M : Type 1} → statement M
 step-spec =
@@ -75,6 +79,8 @@ step-spec =
     (λ c. search needs)
     (λ c. search needs)
     (λ c κs. search needs)
+    (λ c. omega arith)
+    (λ c. omega arith)
     (λ c κs. search needs)
     (λ c. omega arith)
     (λ c. omega arith)

@@ -24,7 +24,7 @@ loop-again c =
     let l = c .before .before .before .before .before in (
       omega arith,
       l .loop .inv .1,
-      formed-more _ (l .loop .k) _ _ _ _ (l .loop .inv .1) (omega arith) (l .loop .inv .2) (c .before .before .partner .ensures) (c .before .posted-by .ensures) (c .process-fits .ensures),
+      formed-more _ (l .loop .k) _ _ _ _ (l .loop .inv .1) (omega arith) (l .loop .inv .2) (c .before .before .committed-to .ensures) (c .before .posted-by .ensures) (c .process-fits .ensures),
     )
 
 returns : tie.Need-returns Inv-loop μ-loop
