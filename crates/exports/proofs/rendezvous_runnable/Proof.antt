@@ -1,0 +1,38 @@
+use borrow.Author.Needs.{needs}
+use Rattle.exports.proofs.rendezvous_runnable.Statement.{statement}
+use Rattle.exports.proofs.rendezvous_runnable.Tie as tie
+
+returns : tie.Need-returns
+returns c =
+    let g = c .before .before .before .before in
+    let r = g .before .before .before in
+    rw (r .runnable .ensures, r .before .decode .ensures) at (g .give .ensures)
+
+pub rendezvous-runnable-spec : {M : Type 1} → statement M
+rendezvous-runnable-spec =
+    tie.close
+    (tie.spec
+    (λ
+    c
+    κs.
+    search
+    needs)
+    (λ
+    c
+    κs.
+    search
+    needs)
+    (λ
+    c
+    κs.
+    search
+    needs)
+    (λ
+    c.
+    search
+    needs)
+    (λ
+    c.
+    search
+    needs)
+    returns)

@@ -1,0 +1,37 @@
+-- To be believed. What an exported call hands back: the table in its byte form, the answer in a form of 16 bytes, and whether both buffers were long enough.
+use Rattle.rendezvous.specs.Numbers.{Said, said, made, ticket, place, same, outcome, movers, refusal}
+use Rattle.wire.specs.Claims.{Faithful}
+use Rattle.wire.specs.Writing.{wordBytes, messageBytes, tableLength, bytesOf, onto}
+use Rattle.exports.specs.Types.{ℕ, _≡_, Bool, _&&_, List, [], _∷_, _++_, Option, some, none, length, leb, Message, Nothing, Reply}
+
+-- the kind of answer, two bytes, a message, a word
+abbrev pub answerForm : ℕ → ℕ → ℕ → Message → ℕ → List ℕ
+answerForm kind a b m word = (kind ∷ a ∷ b ∷ []) ++ messageBytes m ++ wordBytes word
+
+-- how long it is
+abbrev pub answerLength : ℕ
+answerLength = 16
+
+-- a guard index, 0 where there is none
+abbrev pub indexByte : Option ℕ → ℕ
+indexByte none = 0
+indexByte (some i) = i
+
+-- By document 01's numbers and letters: a step's place by its letter and its guard index; an outcome by guard index, partner and message; a
+-- refusal by its number; a ticket and the set of movers as the word.
+abbrev pub saidBytes : Said → List ℕ
+saidBytes made = answerForm 0 0 0 Nothing 0
+saidBytes (ticket t) = answerForm 1 0 0 Nothing t
+saidBytes (place letter index) = answerForm 2 letter (indexByte index) Nothing 0
+saidBytes same = answerForm 3 0 0 Nothing 0
+saidBytes (outcome i q m) = answerForm 4 i q m 0
+saidBytes (movers set) = answerForm 5 0 0 Nothing set
+saidBytes (refusal number) = answerForm 6 number 0 Nothing 0
+
+-- The buffers as they were and as they are left, and what the call returns. A buffer that is too short stays as it is. The next call reads the bytes as the very table
+-- that this one hands back.
+pub record Gives (reply : Reply) (table answer table′ answer′ : List ℕ) (whole : Bool) : Type 0 where
+  pub table-given : table′ ≡ onto tableLength (bytesOf (reply .table)) table
+  pub answer-given : answer′ ≡ onto answerLength (saidBytes (said (reply .answer))) answer
+  pub faithful : Faithful (reply .table)
+  pub both : whole ≡ leb tableLength (length table) && leb answerLength (length answer)

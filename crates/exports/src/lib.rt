@@ -1,0 +1,89 @@
+// Every call for programs in other languages: a table goes in and comes back in its byte form, numbers go as they are. No call asks
+// anything of its arguments: any bytes are a table, and a table may be damaged.
+use rendezvous::ProcessTable;
+use wire::decode;
+use wire::offer_of;
+ghost use mathlib.Core.Path.{_≡_};
+ghost use Rattle.rendezvous.specs.Calls.{create, offer, step, collect, runnable};
+ghost use Rattle.wire.specs.Reading.{tableOf, offerOf};
+ghost use Rattle.exports.specs.Answers.{Gives};
+
+mod answers;
+mod through;
+
+use answers::give;
+use through::limit_through;
+use through::reading_through;
+
+// The two values of a limit.
+pub struct Pair(pub f32, pub f32);
+
+// A fresh table of n processes.
+#[no_mangle]
+pub extern "C" fn rendezvous_create(n: u8, out: &mut [u8], answer: &mut [u8]) -> bool
+    ensures { λ r. ⌜ Gives (create n) (now (out .entry)) (now (answer .entry)) (now (out .exit)) (now (answer .exit)) r ⌝ }
+{
+    give(ProcessTable::create(n), out, answer)
+}
+
+// An offer by process p. `guards` holds twelve bytes for each guard, of any number of them.
+#[no_mangle]
+pub extern "C" fn rendezvous_offer(
+    table: &[u8],
+    p: u8,
+    guards: &[u8],
+    out: &mut [u8],
+    answer: &mut [u8],
+) -> bool
+    ensures { λ r. ⌜ Gives (offer (tableOf (now (table .entry))) p (offerOf (now (guards .entry)))) (now (out .entry)) (now (answer .entry)) (now (out .exit)) (now (answer .exit)) r ⌝ }
+{
+    let list = offer_of(guards);
+    give(decode(table).offer_list(p, list), out, answer)
+}
+
+// A step of process p.
+#[no_mangle]
+pub extern "C" fn rendezvous_step(table: &[u8], p: u8, out: &mut [u8], answer: &mut [u8]) -> bool
+    ensures { λ r. ⌜ Gives (step (tableOf (now (table .entry))) p) (now (out .entry)) (now (answer .entry)) (now (out .exit)) (now (answer .exit)) r ⌝ }
+{
+    give(decode(table).step(p), out, answer)
+}
+
+// A collection from process p.
+#[no_mangle]
+pub extern "C" fn rendezvous_collect(table: &[u8], p: u8, out: &mut [u8], answer: &mut [u8]) -> bool
+    ensures { λ r. ⌜ Gives (collect (tableOf (now (table .entry))) p) (now (out .entry)) (now (answer .entry)) (now (out .exit)) (now (answer .exit)) r ⌝ }
+{
+    give(decode(table).collect(p), out, answer)
+}
+
+// The processes that can move.
+#[no_mangle]
+pub extern "C" fn rendezvous_runnable(table: &[u8], out: &mut [u8], answer: &mut [u8]) -> bool
+    ensures { λ r. ⌜ Gives (runnable (tableOf (now (table .entry)))) (now (out .entry)) (now (answer .entry)) (now (out .exit)) (now (answer .exit)) r ⌝ }
+{
+    give(decode(table).runnable(), out, answer)
+}
+
+// x, by way of a reading in a guard in a record in a table: for a test that its bits stay, a NaN's too.
+#[no_mangle]
+pub extern "C" fn rendezvous_reading_through(x: f32) -> f32
+    ensures { λ r. ⌜ r ≡ x ⌝ }
+{
+    reading_through(x)
+}
+
+// Likewise by way of a limit: low, or high.
+#[no_mangle]
+pub extern "C" fn rendezvous_low_through(low: f32, high: f32) -> f32
+    ensures { λ r. ⌜ r ≡ low ⌝ }
+{
+    limit_through(low, high).0
+}
+
+#[no_mangle]
+pub extern "C" fn rendezvous_high_through(low: f32, high: f32) -> f32
+    ensures { λ r. ⌜ r ≡ high ⌝ }
+{
+    limit_through(low, high).1
+}

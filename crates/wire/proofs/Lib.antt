@@ -1,0 +1,8 @@
+pub mod Back
+pub mod Integers
+pub mod Kept
+pub mod Lengths
+pub mod Lists
+pub mod Offers
+pub mod Parts
+pub mod Variants
