@@ -1,0 +1,41 @@
+/* Process 0 offers the reading 4.72 to process 1, which takes it: the proved library from C.
+   cc -Icrates/exports examples/link/session.c target/staticlib/libexports.a -o session */
+#include "rendezvous.h"
+#include <stdio.h>
+#include <string.h>
+
+static uint8_t table[RENDEZVOUS_TABLE], after[RENDEZVOUS_TABLE], answer[RENDEZVOUS_ANSWER];
+
+/* The table that a call hands back is the one for the next call. */
+static void next(void) { memcpy(table, after, sizeof table); }
+
+static void step(uint8_t p, int times) {
+    for (int k = 0; k < times; k++) {
+        rendezvous_step(table, sizeof table, p, after, sizeof after, answer, sizeof answer);
+        next();
+    }
+}
+
+/* One enabled guard: its partner, whether it sends, and the bits of a reading. */
+static void offer(uint8_t p, uint8_t partner, bool sends, uint32_t bits) {
+    uint8_t guard[RENDEZVOUS_GUARD] = {1, partner, sends, sends ? 2 : 0, bits, bits >> 8, bits >> 16, bits >> 24};
+    rendezvous_offer(table, sizeof table, p, guard, sizeof guard, after, sizeof after, answer, sizeof answer);
+    next();
+}
+
+int main(void) {
+    float sent = 4.72f, received;
+    uint32_t bits;
+    memcpy(&bits, &sent, sizeof bits);
+    rendezvous_create(2, after, sizeof after, answer, sizeof answer);
+    next();
+    offer(0, 1, true, bits);
+    offer(1, 0, false, 0);
+    step(0, 5); /* 0 finds nobody, posts its list and waits */
+    step(1, 4); /* 1 finds 0 waiting, commits and takes the reading */
+    step(0, 1); /* 0 absorbs the signal */
+    rendezvous_collect(table, sizeof table, 1, after, sizeof after, answer, sizeof answer);
+    memcpy(&received, answer + 4, sizeof received);
+    printf("process 1 collects %.2f from process %d\n", received, answer[2]);
+    return answer[0] == 4 && received == sent ? 0 : 1;
+}
