@@ -4,6 +4,7 @@
 //! changes in place, so that it can be compared with any other program.
 
 pub mod book;
+pub mod by_value;
 pub mod call;
 pub mod desk;
 mod form;

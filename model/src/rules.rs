@@ -27,6 +27,16 @@ pub fn apply(desk: &mut Desk, p: usize) -> Option<Place> {
     new_place
 }
 
+/// Would a step of `p` change the desk? All rules but 6, 14 and 15 do.
+pub fn would_change(desk: &Desk, p: usize) -> bool {
+    match desk.parties[p].place {
+        Place::Scanning(own) => scan(desk, p, own).is_some(),
+        Place::Waiting => desk.parties[p].signal.is_some(),
+        Place::Idle | Place::Met(_) => false,
+        _ => true,
+    }
+}
+
 /// A at the first enabled guard at or after `from`, or P if there is none.
 fn enabled_from(guards: &[Guard], from: usize) -> Place {
     match (from..guards.len()).find(|&index| guards[index].enabled) {

@@ -55,6 +55,7 @@ impl ProcessTable {
                 let place = own.place;
                 let signal = c.signal;
                 if c.told {
+                    // Read anew: y would be kept, and so copied, across the rule.
                     let partner = t.processes[j];
                     t.processes[j] = partner.told(c.accepting, signal);
                 }

@@ -17,7 +17,8 @@ pub fn count_fits(n: u8) -> bool
 }
 
 impl ProcessTable {
-    // The calls have this loop written out: each use of the table as a parameter would be two more copies of it.
+    // The calls have this loop written out, and each makes its reply at one place: a use of the table as a parameter, or a second place,
+    // would be one or two more copies of it.
     pub fn well_formed(self) -> bool
         ensures { λ r. ⌜ r ≡ wellFormed self ⌝ }
     {

@@ -2,7 +2,9 @@
 //! document or from the reasoning written beside them.
 
 mod book;
+mod by_value;
 mod damaged;
+mod draw;
 mod edges;
 mod form;
 mod orders;

@@ -1,0 +1,66 @@
+//! Two script programs on one long script: lines a second.
+
+use crate::timing::{median, spread};
+use std::io::Write;
+use std::process::{Command, Stdio};
+use std::thread;
+use std::time::Instant;
+
+const REPEATS: usize = 9;
+const MEETINGS: usize = 20_000;
+
+/// One meeting after another between parties 0 and 1 of eight.
+fn long_script() -> String {
+    let mut meeting = String::from("o 0 1!r40970a3d\no 1 0?\n");
+    for party in [0, 0, 0, 0, 0, 1, 1, 1, 1, 0] {
+        meeting += &format!("s {party}\n");
+    }
+    meeting += "c 1\nc 0\nm\n";
+    String::from("n 8\n") + &meeting.repeat(MEETINGS)
+}
+
+/// Runs both in turn, and prints how many lines each takes a second.
+pub fn compare(program: &str, model: &str) -> Result<(), String> {
+    let script = long_script();
+    let lines = script.lines().count() as f64;
+    let (mut proved, mut modelled, mut ratios) = (Vec::new(), Vec::new(), Vec::new());
+    for _ in 0..REPEATS {
+        let (seconds, output) = run(program, &script)?;
+        let (of_model, expected) = run(model, &script)?;
+        if output != expected {
+            return Err(format!("{program} and {model} differ on the script."));
+        }
+        proved.push(lines / seconds);
+        modelled.push(lines / of_model);
+        ratios.push(of_model / seconds);
+    }
+    let (least, greatest) = spread(&ratios);
+    println!(
+        "\nScript lines a second, of {lines} lines: {:.0}; the model {:.0}: {:.2} ({least:.2} to {greatest:.2}) times as many.",
+        median(&proved),
+        median(&modelled),
+        median(&ratios),
+    );
+    Ok(())
+}
+
+/// Feeds the script to a program, and gives the seconds and what it wrote.
+fn run(program: &str, script: &str) -> Result<(f64, Vec<u8>), String> {
+    let failed = |error: std::io::Error| format!("{program} cannot be run: {error}.");
+    let begun = Instant::now();
+    let mut child = Command::new(program)
+        .stdin(Stdio::piped())
+        .stdout(Stdio::piped())
+        .spawn()
+        .map_err(failed)?;
+    let mut input = child.stdin.take().expect("the input is a pipe");
+    let bytes = script.as_bytes().to_vec();
+    let feeder = thread::spawn(move || input.write_all(&bytes));
+    let output = child.wait_with_output().map_err(failed)?;
+    let fed = feeder.join().expect("the feeding thread does not panic");
+    fed.map_err(failed)?;
+    match output.status.success() {
+        true => Ok((begun.elapsed().as_secs_f64(), output.stdout)),
+        false => Err(format!("{program} failed.")),
+    }
+}

@@ -1,0 +1,48 @@
+//! Refusal 7 on a desk by value.
+
+use super::desk::Desk;
+use super::record::{GuardList, Party, Place, MOST_GUARDS};
+
+pub fn in_form(desk: &Desk) -> bool {
+    (2..=32).contains(&desk.n) && (0..desk.n).all(|party| party_in_form(desk, party))
+}
+
+fn party_in_form(desk: &Desk, party: u8) -> bool {
+    let record = desk.party(party);
+    list_in_form(&record.guards, party, desk.n)
+        && list_in_form(&record.posted, party, desk.n)
+        && indexes_in_form(record)
+        && kept_in_form(desk, record)
+}
+
+fn list_in_form(list: &GuardList, party: u8, n: u8) -> bool {
+    usize::from(list.count) <= MOST_GUARDS
+        && list
+            .as_slice()
+            .iter()
+            .all(|guard| guard.partner != party && guard.partner < n)
+}
+
+/// The indexes in A, T, C, the outcome and the signal, against the own list.
+fn indexes_in_form(record: &Party) -> bool {
+    let in_place = match record.place {
+        Place::Scanning(own) | Place::Trying(own) | Place::Committed { own, .. } => Some(own),
+        Place::Met(outcome) => Some(outcome.index),
+        _ => None,
+    };
+    let in_signal = record.signal.map(|signal| signal.index);
+    let has_guard = |index: u8| index < record.guards.count;
+    in_place.is_none_or(has_guard) && in_signal.is_none_or(has_guard)
+}
+
+/// The kept index at C, against the posted list of the partner that the own
+/// guard names; the own list and index are in form here, and so is the partner.
+fn kept_in_form(desk: &Desk, record: &Party) -> bool {
+    match record.place {
+        Place::Committed { own, kept } => record
+            .guards
+            .get(own)
+            .is_some_and(|guard| kept < desk.party(guard.partner).posted.count),
+        _ => true,
+    }
+}

@@ -1,0 +1,216 @@
+//! The desk by value against the desk that is changed in place: the same
+//! answers and the same desks, on damaged desks and along random runs.
+
+use crate::draw::Draw;
+use crate::tools::fresh;
+use model::by_value;
+use model::{Desk, Guard, IndexedMessage, Party, Place};
+
+/// An index or a party as a byte; what does not fit is past every list.
+fn byte(number: usize) -> u8 {
+    u8::try_from(number).unwrap_or(u8::MAX)
+}
+
+fn guard(guard: &Guard) -> by_value::Guard {
+    by_value::Guard {
+        enabled: guard.enabled,
+        partner: byte(guard.partner),
+        action: guard.action,
+    }
+}
+
+/// The slots hold the first eight guards; the count tells if there are more.
+fn list(guards: &[Guard]) -> by_value::GuardList {
+    let first: Vec<_> = guards.iter().take(8).map(guard).collect();
+    let mut list = by_value::GuardList::copied(&first);
+    list.count = byte(guards.len());
+    list
+}
+
+fn indexed(content: IndexedMessage) -> by_value::IndexedMessage {
+    by_value::IndexedMessage {
+        index: byte(content.index),
+        message: content.message,
+    }
+}
+
+fn place(place: Place) -> by_value::Place {
+    match place {
+        Place::Idle => by_value::Place::Idle,
+        Place::Entering => by_value::Place::Entering,
+        Place::Scanning(own) => by_value::Place::Scanning(byte(own)),
+        Place::Trying(own) => by_value::Place::Trying(byte(own)),
+        Place::Committed { own, kept } => by_value::Place::Committed {
+            own: byte(own),
+            kept: byte(kept),
+        },
+        Place::Posting => by_value::Place::Posting,
+        Place::Opening => by_value::Place::Opening,
+        Place::Showing => by_value::Place::Showing,
+        Place::Asleep => by_value::Place::Asleep,
+        Place::Waiting => by_value::Place::Waiting,
+        Place::Met(outcome) => by_value::Place::Met(indexed(outcome)),
+    }
+}
+
+fn record(party: &Party) -> by_value::Party {
+    by_value::Party {
+        guards: list(&party.guards),
+        ticket: party.ticket,
+        posted: list(&party.posted),
+        wake_count: party.wake_count,
+        signal: party.signal.map(indexed),
+        place: place(party.place),
+    }
+}
+
+/// The same desk by value. Records past the array's end are no party's.
+fn value_of(desk: &Desk) -> by_value::Desk {
+    let mut parties = [by_value::Party::FRESH; by_value::MOST_PARTIES];
+    for (slot, party) in parties.iter_mut().zip(&desk.parties) {
+        *slot = record(party);
+    }
+    by_value::Desk {
+        n: byte(desk.n),
+        next_ticket: desk.next_ticket,
+        parties,
+    }
+}
+
+fn compare_offer(desk: &mut Desk, party: u8, guards: &[Guard]) {
+    let offered: Vec<_> = guards.iter().map(guard).collect();
+    let (answer, after) = value_of(desk).offer(party, &offered);
+    assert_eq!(answer, desk.offer(usize::from(party), guards));
+    assert_eq!(after, value_of(desk));
+}
+
+fn compare_step(desk: &mut Desk, party: u8) {
+    let (answer, after) = value_of(desk).step(party);
+    let expected = desk.step(usize::from(party));
+    let stands = |_| place(desk.parties[usize::from(party)].place);
+    assert_eq!(answer, expected.map(|said| said.map(stands)));
+    assert_eq!(after, value_of(desk));
+}
+
+fn compare_collect(desk: &mut Desk, party: u8) {
+    let (answer, after) = value_of(desk).collect(party);
+    let expected = desk.collect(usize::from(party));
+    let outcome = |given: model::Outcome| by_value::Outcome {
+        index: byte(given.index),
+        partner: byte(given.partner),
+        message: given.message,
+    };
+    assert_eq!(answer, expected.map(outcome));
+    assert_eq!(after, value_of(desk));
+}
+
+fn compare_movers(desk: &Desk) {
+    let (answer, after) = value_of(desk).movers();
+    assert_eq!(answer, desk.movers());
+    assert_eq!(answer, desk.movers_by_rule());
+    assert_eq!(after, value_of(desk));
+}
+
+#[test]
+fn fresh_desks() {
+    for n in 0..=255 {
+        let in_place = Desk::new(usize::from(n));
+        let made = in_place.map(|desk| value_of(&desk));
+        assert_eq!(by_value::Desk::new(n), made);
+    }
+}
+
+/// Every call on one desk, each on a copy.
+fn compare_calls(draw: &mut Draw, desk: &Desk) {
+    compare_movers(desk);
+    for party in [0, 1, 2, 3, 4, 5, 31, 32, 255] {
+        let mut guards = draw.list(usize::from(party), desk.n.min(255));
+        compare_offer(&mut desk.clone(), party, &guards);
+        if let Some(first) = guards.first_mut() {
+            first.partner = [usize::from(party), desk.n.min(255)][draw.random.below(2)];
+            compare_offer(&mut desk.clone(), party, &guards);
+        }
+        compare_step(&mut desk.clone(), party);
+        compare_collect(&mut desk.clone(), party);
+    }
+}
+
+/// Random desks, of which more are damaged the more are wild.
+fn compare_desks(seed: u64, wild: usize, desks: usize) {
+    let mut draw = Draw::new(seed, wild);
+    for _ in 0..desks {
+        let desk = draw.desk();
+        // No array of 32 records has fewer records than parties.
+        if desk.parties.len() >= desk.n {
+            compare_calls(&mut draw, &desk);
+        }
+    }
+}
+
+/// Puts one thing of a party just past what refusal 7 allows.
+fn damage(draw: &mut Draw, desk: &mut Desk) {
+    let number = draw.random.below(desk.n);
+    let kind = draw.random.below(8);
+    let (n, partner) = (desk.n, desk.parties[number].guards[0].partner);
+    let kept = desk.parties[partner].posted.len();
+    let party = &mut desk.parties[number];
+    let past = IndexedMessage {
+        index: party.guards.len(),
+        message: model::Message::Nothing,
+    };
+    match kind {
+        0 => party.place = Place::Scanning(past.index),
+        1 => party.place = Place::Trying(past.index),
+        2 => party.place = Place::Met(past),
+        3 => party.signal = Some(past),
+        4 => party.place = Place::Committed { own: 0, kept },
+        5 => party.guards[0].partner = number,
+        6 => party.posted[0].partner = n,
+        _ => party.posted = vec![party.posted[0]; 9],
+    }
+}
+
+#[test]
+fn desks_in_form() {
+    compare_desks(0x1111_5678_9abc_def1, 0, 500);
+}
+
+#[test]
+fn rarely_wild_desks() {
+    compare_desks(0x2222_5678_9abc_def1, 200, 500);
+}
+
+#[test]
+fn often_wild_desks() {
+    compare_desks(0x3333_5678_9abc_def1, 5, 300);
+}
+
+#[test]
+fn desks_damaged_at_an_edge() {
+    let mut draw = Draw::new(0x4444_5678_9abc_def1, 0);
+    for _ in 0..500 {
+        let mut desk = draw.desk();
+        damage(&mut draw, &mut desk);
+        assert!(desk.movers().is_err());
+        compare_calls(&mut draw, &desk);
+    }
+}
+
+#[test]
+fn random_runs() {
+    for (seed, n) in [(0x11, 2), (0x22, 3), (0x33, 8), (0x44, 32)] {
+        let mut draw = Draw::new(seed, 0);
+        let mut desk = fresh(n);
+        for _ in 0..1500 {
+            let party = draw.random.below(n);
+            let guards = draw.list(party, n);
+            let party = byte(party);
+            match draw.random.below(12) {
+                0 | 1 => compare_offer(&mut desk, party, &guards),
+                2 => compare_collect(&mut desk, party),
+                3 => compare_movers(&desk),
+                _ => compare_step(&mut desk, party),
+            }
+        }
+    }
+}
