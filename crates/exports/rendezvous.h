@@ -1,4 +1,4 @@
-/* The calls on a process table, for C: a table goes in and comes back as bytes. Every function is proved for all arguments;
+/* The calls on a process table and the script program, for C: a table or a session goes in and comes back as bytes. Every function is proved for all arguments;
    what each gives is defined in crates/wire/specs and crates/exports/specs.
 
    A table's form, RENDEZVOUS_TABLE bytes, numbers little-endian:
@@ -26,6 +26,13 @@
      12 to 15    offered: the ticket; runnable: the set of processes
    What an answer has no use for is 0.
 
+   A session's form, RENDEZVOUS_SESSION bytes: the script program between two pieces of its input:
+     byte 0        whether a table was made
+     1             how many bytes the begun line has, of those from byte 2 on: 0 to 201, where 201 is an overlong line
+     2 to 202      the begun line
+     203 onwards   the table
+   Any bytes are read as a session: missing bytes are 0, any first byte but 0 is true, and a length over 201 is 201.
+
    `out` takes the table that a call hands back and `answer` the answer, each at its front. A buffer that is too short stays as
    it is, and the call returns false. The buffers of a call must not overlap. */
 #ifndef RENDEZVOUS_H
@@ -38,6 +45,8 @@
 #define RENDEZVOUS_TABLE 7109
 #define RENDEZVOUS_ANSWER 16
 #define RENDEZVOUS_GUARD 12
+#define RENDEZVOUS_SESSION 7312
+#define RENDEZVOUS_LINE 64
 
 bool rendezvous_create(uint8_t n, uint8_t *out, size_t out_length, uint8_t *answer, size_t answer_length);
 
@@ -53,6 +62,20 @@ bool rendezvous_collect(const uint8_t *table, size_t table_length, uint8_t p, ui
 
 bool rendezvous_runnable(const uint8_t *table, size_t table_length, uint8_t *out, size_t out_length, uint8_t *answer,
                          size_t answer_length);
+
+/* A session before its first byte, to the front of `state`. */
+bool rendezvous_script_start(uint8_t *state, size_t state_length);
+
+/* Feeds a piece of the input to a session. No line prints more than RENDEZVOUS_LINE bytes, so as many bytes of the piece are taken as
+   `out` has room for if each of them ends a line: the least of piece_length and out_length / RENDEZVOUS_LINE. `taken` is set to how many
+   that is; feed the rest next. What they print goes to the front of `out`, and `filled` is set to how many bytes that is. `after` takes the
+   session after them; if it is too short, it stays as it is and the call returns false. */
+bool rendezvous_script_feed(const uint8_t *state, size_t state_length, const uint8_t *piece, size_t piece_length, uint8_t *after,
+                            size_t after_length, uint8_t *out, size_t out_length, size_t *taken, size_t *filled);
+
+/* What the end of the input prints, to the front of `out`, and how many bytes that is: an unended last line is malformed. An `out`
+   of less than RENDEZVOUS_LINE bytes stays as it is, and the call returns 0. */
+size_t rendezvous_script_finish(const uint8_t *state, size_t state_length, uint8_t *out, size_t out_length);
 
 /* An f32, handed back by way of a message in a guard in a record in a table: for tests of its bits. */
 float rendezvous_reading_through(float x);

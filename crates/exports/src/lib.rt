@@ -1,17 +1,23 @@
-// Every call for programs in other languages: a table goes in and comes back in its byte form, numbers go as they are. No call asks
-// anything of its arguments: any bytes are a table, and a table may be damaged.
+// Every call for programs in other languages: a table, or a session of the script program, goes in and comes back in its byte form,
+// numbers go as they are. No call asks anything of its arguments: any bytes are a table or a session, and a table may be damaged.
 use rendezvous::ProcessTable;
 use wire::decode;
 use wire::offer_of;
 ghost use mathlib.Core.Path.{_≡_};
 ghost use Rattle.rendezvous.specs.Calls.{create, offer, step, collect, runnable};
 ghost use Rattle.wire.specs.Reading.{tableOf, offerOf};
+ghost use Rattle.script.specs.Feeding.{start};
 ghost use Rattle.exports.specs.Answers.{Gives};
+ghost use Rattle.exports.specs.Scripts.{stateIn, Keeps, Feeds, Finishes, ByCalls};
 
 mod answers;
+mod scripts;
 mod through;
 
 use answers::give;
+use scripts::put_session;
+use scripts::put_text;
+use scripts::session_in;
 use through::limit_through;
 use through::reading_through;
 
@@ -64,6 +70,49 @@ pub extern "C" fn rendezvous_runnable(table: &[u8], out: &mut [u8], answer: &mut
 {
     give(decode(table).runnable(), out, answer)
 }
+
+// A session of the script program before its first byte.
+#[no_mangle]
+pub extern "C" fn rendezvous_script_start(state: &mut [u8]) -> bool
+    ensures { λ r. ⌜ Keeps start (now (state .entry)) (now (state .exit)) r ⌝ }
+{
+    put_session(script::start(), state)
+}
+
+// Feeds a piece of the input: as many of its bytes as `out` has room for, 64 bytes each. `taken` and `filled` are set to how many were taken
+// and how many bytes their lines print to the front of `out`.
+#[no_mangle]
+pub extern "C" fn rendezvous_script_feed(
+    state: &[u8],
+    piece: &[u8],
+    after: &mut [u8],
+    out: &mut [u8],
+    taken: &mut usize,
+    filled: &mut usize,
+) -> bool
+    ensures { λ r. ⌜ Feeds (stateIn (now (state .entry))) (now (piece .entry)) (now (after .entry)) (now (out .entry)) (now (after .exit)) (now (out .exit)) (now (taken .exit)) (now (filled .exit)) r ⌝ }
+{
+    let session = session_in(state);
+    let fed = script::feed(session, piece, out);
+    *taken = fed.taken;
+    *filled = fed.filled;
+    let next = fed.session;
+    put_session(next, after)
+}
+
+// What the end of the input prints, to the front of `out`, and how many bytes that is; nothing if `out` has less than 64 bytes.
+#[no_mangle]
+pub extern "C" fn rendezvous_script_finish(state: &[u8], out: &mut [u8]) -> usize
+    ensures { λ r. ⌜ Finishes (stateIn (now (state .entry))) (now (out .entry)) (now (out .exit)) r ⌝ }
+{
+    let session = session_in(state);
+    put_text(script::finish(session), out)
+}
+
+// Carries that a session which goes from call to call as bytes prints the whole output.
+pub fn script_by_calls()
+    ensures { λ _. ⌜ ByCalls ⌝ }
+{}
 
 // x, by way of a reading in a guard in a record in a table: for a test that its bits stay, a NaN's too.
 #[no_mangle]

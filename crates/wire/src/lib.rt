@@ -14,13 +14,14 @@ mod reading;
 mod wholes;
 mod writing;
 
-use bytes::byte_at;
-use bytes::from;
+pub use bytes::byte_at;
+pub use bytes::from;
 pub use bytes::put_bytes;
 pub use bytes::word_bytes;
 use bytes::word_of;
 pub use reading::offer_of;
 use reading::process_of;
+pub use writing::flag_byte;
 pub use writing::message_bytes;
 use writing::process_bytes;
 

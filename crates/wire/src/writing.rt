@@ -13,7 +13,7 @@ ghost use mathlib.Core.Path.{_≡_};
 ghost use mathlib.Core.List.{_∷_, _++_};
 ghost use Rattle.wire.specs.Writing.{flag, wordBytes, messageBytes, guardBytes, placeBytes, signalBytes, guardsBytes, processBytes};
 
-fn flag_byte(b: bool) -> u8
+pub fn flag_byte(b: bool) -> u8
     ensures { λ r. ⌜ r ≡ flag b ⌝ }
 {
     if b { 1 } else { 0 }
