@@ -1,5 +1,9 @@
+//! Links the loop of `meter`, and `exports` for a step by way of the byte form.
+
 fn main() {
-    println!("cargo:rerun-if-changed=../../target/staticlib/libmeter.a");
     println!("cargo:rustc-link-search=native=../../target/staticlib");
-    println!("cargo:rustc-link-lib=static=meter");
+    for library in ["meter", "exports"] {
+        println!("cargo:rerun-if-changed=../../target/staticlib/lib{library}.a");
+        println!("cargo:rustc-link-lib=static={library}");
+    }
 }

@@ -9,6 +9,7 @@ mod in_place;
 mod plan;
 mod proved;
 mod script;
+mod through_bytes;
 mod timing;
 
 use plan::{Plan, Setting};
@@ -49,6 +50,8 @@ fn calls() {
     table(0, &[2, 8, 32]);
     println!("\nThe other parties wait with lists of eight guards.");
     table(8, &[8, 32]);
+    println!();
+    through_bytes::print(&[2, 8, 32]);
 }
 
 /// The calls at each n, and how a step's time grows from the first n to the last.
