@@ -43,8 +43,11 @@ answer-length command (outcome i q m) h = simp length-append (omega (arith, deci
 answer-length command (movers set) h = simp length-append (omega (arith, hex-text-length set))
 answer-length command (refusal k) h = omega (arith, decimal-text-length k)
 
-pub line-kept : (command : List ℕ) (s : Said) → length command ≤ 12 → kept (ended (answerText command s)) ≡ ended (answerText command s)
+line-kept : (command : List ℕ) (s : Said) → length command ≤ 12 → kept (ended (answerText command s)) ≡ ended (answerText command s)
 line-kept command s h = kept-short (ended (answerText command s)) (simp length-append (omega (arith, answer-length command s h)))
+
+pub line-text : {begun text : List ℕ} (command : List ℕ) (s : Said) → length command ≤ 12 → begun ≡ command → text ≡ kept (ended (answerText begun s)) → text ≡ ended (answerText command s)
+line-text command s h b e = e ∙ rw b (line-kept command s h)
 
 pub number-length : (letter n : ℕ) → length (letter ∷ field (decimalText n)) ≤ 12
 number-length letter n = omega (arith, decimal-text-length n)

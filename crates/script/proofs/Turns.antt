@@ -7,7 +7,7 @@ use mathlib.Core.List.{List, [], _∷_}
 use mathlib.Core.Option.{Option, some, none}
 use native.Mathlib.Omega.{arith}
 use lib.ListN.{length, length-append}
-use Rattle.text.specs.Writing.{kept, decimalText}
+use Rattle.text.specs.Writing.{decimalText}
 use Rattle.command.specs.declared.Kind.{Kind}
 use Rattle.command.specs.declared.Parsed.{Parsed}
 use Rattle.command.specs.Form.{asParsed}
@@ -20,15 +20,15 @@ use Rattle.rendezvous.specs.Refusals.{offerVerdict, processVerdict, tableVerdic
 use Rattle.rendezvous.specs.Numbers.{said}
 use Rattle.rendezvous.specs.Calls.{ifAccepted, create, offered, offerList, effectOn, applied, stepped, step, collected, collect, runnable, runnableSet}
 use Rattle.script.specs.Types.{GuardList, ProcessTable, Runnable, Reply, Command, New, Offer, Step, Collect, Movers}
-use Rattle.script.specs.Printing.{field, refusalText, commandText, answerText, ended}
+use Rattle.script.specs.Printing.{field, commandText, answerText, ended}
 use Rattle.script.specs.Lines.{Ended, lineCommand}
 use Rattle.script.specs.Session.{replyTo, isRefused, Turn, malformed, answered, turnBy, turn}
 use Rattle.script.specs.Feeding.{tableOf}
-use Rattle.script.specs.Private.{readyKind}
-use Rattle.script.proofs.Texts.{answer-length, line-kept, number-length, refusal-length}
+use Rattle.script.specs.Private.{readyKind, madeAfter, newReply, lineText}
+use Rattle.script.proofs.Texts.{answer-length, number-length, refusal-length}
 
 -- a turn by the kind, the number and the guards that the code reads off a line
-abbrev pub turnAt : Bool → ProcessTable → Kind → ℕ → GuardList → Turn
+abbrev turnAt : Bool → ProcessTable → Kind → ℕ → GuardList → Turn
 turnAt made t Kind.Malformed n list = malformed (tableOf made t)
 turnAt made t Kind.New n list = answered (tableOf made t) (code "n" ∷ field (decimalText n)) (create n)
 turnAt made t Kind.Offer n list = answered (tableOf made t) (code "o" ∷ field (decimalText n)) (offerList t n list)
@@ -51,12 +51,8 @@ turn-by false t (some (Step p)) = refl
 turn-by false t (some (Collect p)) = refl
 turn-by false t (some Movers) = refl
 
-pub line-turn : (made : Bool) (t : ProcessTable) (line : List ℕ) (p : Parsed) (k k′ : Kind) → p ≡ asParsed (lineCommand (Ended line)) → k ≡ readyKind made (p .kind) → k ≡ k′
-    → turnAt made t k′ (p .number) (p .list) ≡ turn (tableOf made t) (lineCommand (Ended line))
-line-turn made t line p k k′ e f g = rw (← g, f, e) (sym (turn-by made t (lineCommand (Ended line))))
-
 -- the kinds that need a table
-abbrev pub onTable : Kind → Bool
+abbrev onTable : Kind → Bool
 onTable Kind.Malformed = false
 onTable Kind.New = false
 onTable Kind.Offer = true
@@ -64,11 +60,11 @@ onTable Kind.Step = true
 onTable Kind.Collect = true
 onTable Kind.Movers = true
 
-pub ready-made : (made : Bool) (k k′ k″ : Kind) → k ≡ readyKind made k″ → k ≡ k′ → onTable k′ ≡ true → made ≡ true
-ready-made true k k′ k″ e f h = refl
-ready-made false k k′ k″ e f h = absurd (go k″ (ap onTable (sym e ∙ f) ∙ h))
+ready-made : (made : Bool) (k k′ : Kind) → k ≡ readyKind made k′ → onTable k ≡ true → made ≡ true
+ready-made true k k′ e h = refl
+ready-made false k k′ e h = absurd (go k′ (ap onTable (sym e) ∙ h))
   where
-    go : (k″ : Kind) → onTable (readyKind false k″) ≡ true → ⊥
+    go : (k′ : Kind) → onTable (readyKind false k′) ≡ true → ⊥
     go Kind.Malformed e = false≢true e
     go Kind.New e = false≢true e
     go Kind.Offer e = false≢true e
@@ -77,7 +73,7 @@ ready-made false k k′ k″ e f h = absurd (go k″ (ap onTable (sym e ∙ f) �
     go Kind.Movers e = false≢true e
 
 -- "It returns its number and the desk received": where a call is refused, its table is the one that it got
-unfoldable pub HandsBack : ProcessTable → Reply → Type 0
+unfoldable HandsBack : ProcessTable → Reply → Type 0
 HandsBack t reply = isRefused (reply .answer) ≡ true → reply .table ≡ t
 
 if-hands : (v : Verdict) (t : ProcessTable) (reply : Reply) → HandsBack t reply → HandsBack t (ifAccepted v t reply)
@@ -85,7 +81,7 @@ unfolding HandsBack
 if-hands Accepted t reply h e = h e
 if-hands (Verdict.Refused r) t reply h e = refl
 
-pub offer-hands : (t : ProcessTable) (p : ℕ) (list : GuardList) → HandsBack t (offerList t p list)
+offer-hands : (t : ProcessTable) (p : ℕ) (list : GuardList) → HandsBack t (offerList t p list)
 unfolding offerList offered HandsBack
 offer-hands t p list = if-hands (offerVerdict t p list) t (offered t p list) (λ e. absurd (false≢true e))
 
@@ -95,7 +91,7 @@ applied-hands t p q Neither h = refl
 applied-hands t p q (Own x) h = absurd (false≢true h)
 applied-hands t p q (Both x y) h = absurd (false≢true h)
 
-pub step-hands : (t : ProcessTable) (p : ℕ) → HandsBack t (step t p)
+step-hands : (t : ProcessTable) (p : ℕ) → HandsBack t (step t p)
 unfolding step stepped
 step-hands t p = if-hands (processVerdict t p) t (stepped t p) (applied-hands t p (partnerOf (process t p)) (effectOn t p))
 
@@ -113,40 +109,71 @@ collected-hands t p x Showing h = refl
 collected-hands t p x Asleep h = refl
 collected-hands t p x Waiting h = refl
 
-pub collect-hands : (t : ProcessTable) (p : ℕ) → HandsBack t (collect t p)
+collect-hands : (t : ProcessTable) (p : ℕ) → HandsBack t (collect t p)
 unfolding collect
 collect-hands t p = if-hands (processVerdict t p) t (collected t p (process t p) (process t p .place)) (collected-hands t p (process t p) (process t p .place))
 
-pub runnable-hands : (t : ProcessTable) → HandsBack t (runnable t)
+runnable-hands : (t : ProcessTable) → HandsBack t (runnable t)
 unfolding runnable HandsBack
 runnable-hands t = if-hands (tableVerdict t) t (record { answer = Runnable (runnableSet t); table = t }) (λ e. refl)
 
-pub malformed-turn : (text : List ℕ) (table : Option ProcessTable) → text ≡ ended (refusalText 8) → _≡_ {A = Turn} (record { prints = text; table = table }) (malformed table)
-malformed-turn text table e = rw e
+-- a call on the table goes on with the table of its reply, refused or not
+call-turn : (t : ProcessTable) (command : List ℕ) (reply : Reply) → HandsBack t reply
+    → _≡_ {A = Turn} (record { prints = ended (answerText command (said (reply .answer))); table = some (reply .table) }) (answered (some t) command reply)
+unfolding answered HandsBack
+call-turn t command reply h = go (isRefused (reply .answer)) refl
+  where
+    go : (b : Bool) → isRefused (reply .answer) ≡ b
+        → _≡_ {A = Turn} (record { prints = ended (answerText command (said (reply .answer))); table = some (reply .table) })
+        (record { prints = ended (answerText command (said (reply .answer))); table = cond (isRefused (reply .answer)) (some t) (some (reply .table)) })
+    go true b = rw (b, h b)
+    go false b = rw b
 
--- what the code leaves of a line is its turn: the text that it prints, after a command's own text, and the table after the call
-module _ (made : Bool) (t : ProcessTable) (begun command text : List ℕ) (reply called : Reply) (begins : begun ≡ command) (calls : reply ≡ called) (short : length command ≤ 12)
-    (prints : text ≡ kept (ended (answerText begun (said (reply .answer))))) where
-  printed-as : text ≡ ended (answerText command (said (called .answer)))
-  printed-as = (rw (begins, calls) at prints) ∙ line-kept command (said (called .answer)) short
+-- `n` goes on with the new table, or, where it is refused, with the old one
+new-turn : (made : Bool) (t : ProcessTable) (command : List ℕ) (n : ℕ) → let reply = newReply t n in
+    _≡_ {A = Turn} (record { prints = ended (answerText command (said (reply .answer))); table = tableOf (madeAfter made Kind.New (reply .answer)) (reply .table) }) (answered (tableOf made t) command (create n))
+unfolding answered newReply
+new-turn made t command n = go made (isRefused (create n .answer)) refl
+  where
+    go : (made b : Bool) → isRefused (create n .answer) ≡ b → let reply = cond (isRefused (create n .answer)) (record { answer = create n .answer; table = t }) (create n) in
+        _≡_ {A = Turn} (record { prints = ended (answerText command (said (reply .answer))); table = tableOf (madeAfter made Kind.New (reply .answer)) (reply .table) })
+        (record { prints = ended (answerText command (said (create n .answer))); table = cond (isRefused (create n .answer)) (tableOf made t) (some (create n .table)) })
+    go true true b = rw b
+    go true false b = rw b
+    go false true b = rw (b, b)
+    go false false b = rw (b, b)
 
-  pub call-turn : made ≡ true → HandsBack t called → _≡_ {A = Turn} (record { prints = text; table = tableOf made (reply .table) }) (answered (tableOf made t) command called)
-  unfolding answered HandsBack
-  call-turn m h = rw (printed-as, calls, m) (go (isRefused (called .answer)) refl)
-    where
-      go : (b : Bool) → isRefused (called .answer) ≡ b
-          → _≡_ {A = Turn} (record { prints = ended (answerText command (said (called .answer))); table = some (called .table) })
-          (record { prints = ended (answerText command (said (called .answer))); table = cond (isRefused (called .answer)) (some t) (some (called .table)) })
-      go true b = rw (b, h b)
-      go false b = rw b
+-- the reply with which the code goes on, after the reply before it
+abbrev pub replyAfter : Reply → Kind → ℕ → GuardList → Reply
+replyAfter r Kind.Malformed n list = r
+replyAfter r Kind.New n list = newReply (r .table) n
+replyAfter r Kind.Offer n list = offerList (r .table) n list
+replyAfter r Kind.Step n list = step (r .table) n
+replyAfter r Kind.Collect n list = collect (r .table) n
+replyAfter r Kind.Movers n list = runnable (r .table)
 
-  pub new-accepted : isRefused (reply .answer) ≡ false → _≡_ {A = Turn} (record { prints = text; table = tableOf true (reply .table) }) (answered (tableOf made t) command called)
-  unfolding answered
-  new-accepted b = let c : isRefused (called .answer) ≡ false = rw calls at b in rw (printed-as, calls, c)
+-- what the code prints and leaves, by the kind of a command
+abbrev leftAt : Bool → Kind → ℕ → Reply → Turn
+leftAt made k n r = record { prints = lineText k n (r .answer); table = tableOf (madeAfter made k (r .answer)) (r .table) }
 
-  pub new-refused : isRefused (reply .answer) ≡ true → _≡_ {A = Turn} (record { prints = text; table = tableOf made t }) (answered (tableOf made t) command called)
-  unfolding answered
-  new-refused b = let c : isRefused (called .answer) ≡ true = rw calls at b in rw (printed-as, c)
+-- .. is what the definitions say of that kind; `n` and a malformed line need no table
+left-turn : (made : Bool) (r : Reply) (k : Kind) (n : ℕ) (list : GuardList) → (onTable k ≡ true → made ≡ true) → leftAt made k n (replyAfter r k n list) ≡ turnAt made (r .table) k n list
+unfolding lineText
+left-turn made r Kind.Malformed n list h = refl
+left-turn made r Kind.New n list h = new-turn made (r .table) (code "n" ∷ field (decimalText n)) n
+left-turn made r Kind.Offer n list h = rw (h refl) (call-turn (r .table) (code "o" ∷ field (decimalText n)) _ (offer-hands (r .table) n list))
+left-turn made r Kind.Step n list h = rw (h refl) (call-turn (r .table) (code "s" ∷ field (decimalText n)) _ (step-hands (r .table) n))
+left-turn made r Kind.Collect n list h = rw (h refl) (call-turn (r .table) (code "c" ∷ field (decimalText n)) _ (collect-hands (r .table) n))
+left-turn made r Kind.Movers n list h = rw (h refl) (call-turn (r .table) (code "m" ∷ []) _ (runnable-hands (r .table)))
+
+-- what the code prints and leaves is the line's turn
+pub line-turn : (made : Bool) (r r′ : Reply) (line : List ℕ) (p : Parsed) (k : Kind) (text : List ℕ) (made′ : Bool) → p ≡ asParsed (lineCommand (Ended line)) → k ≡ readyKind made (p .kind)
+    → r′ ≡ replyAfter r k (p .number) (p .list) → text ≡ lineText k (p .number) (r′ .answer) → made′ ≡ madeAfter made k (r′ .answer)
+    → _≡_ {A = Turn} (record { prints = text; table = tableOf made′ (r′ .table) }) (turn (tableOf made (r .table)) (lineCommand (Ended line)))
+line-turn made r r′ line p k text made′ parsed counts called prints makes =
+    let left : leftAt made k (p .number) r′ ≡ turnAt made (r .table) k (p .number) (p .list) = rw called (left-turn made r k (p .number) (p .list) (ready-made made k (p .kind) counts)) in
+    let by : turnAt made (r .table) k (p .number) (p .list) ≡ turn (tableOf made (r .table)) (lineCommand (Ended line)) = rw (counts, parsed) (sym (turn-by made (r .table) (lineCommand (Ended line)))) in
+    rw (prints, makes) (left ∙ by)
 
 -- a line prints 64 bytes at most
 answered-length : (table : Option ProcessTable) (command : List ℕ) (reply : Reply) → length command ≤ 12 → length (answered table command reply .prints) ≤ 64

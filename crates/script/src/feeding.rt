@@ -1,17 +1,21 @@
-// The session, piece by piece. The table is a local of one loop: each function that takes and gives it would copy it twice.
+// The session, piece by piece. A copy of the table is most of a line's work, so the loop keeps the whole reply to the last line, with
+// the table in it: a call gives the next reply in its place. A table that is a local of its own would be copied once more for each
+// line, and each function that takes and gives it would copy it twice.
 use crate::Fed;
 use crate::Session;
 use crate::lines::MOST_BYTES;
 use crate::lines::is_refused;
 use crate::lines::line_command;
+use crate::lines::made_after;
 use crate::lines::ready;
 use crate::output::least;
 use crate::output::put;
-use crate::printing::answer_line;
-use crate::printing::command_text;
 use crate::printing::malformed_line;
+use crate::printing::printed_line;
 use command::Kind;
+use rendezvous::Answer;
 use rendezvous::ProcessTable;
+use rendezvous::Reply;
 use text::Text;
 ghost use Prim.Native.Nat.{_/_, min};
 ghost use mathlib.Core.Path.{_≡_};
@@ -19,6 +23,7 @@ ghost use mathlib.Core.List.{_++_};
 ghost use lib.ListN.{length, take, drop};
 ghost use Rattle.text.specs.Writing.{shown};
 ghost use Rattle.script.specs.Feeding.{start, stateOf, fed, finished};
+ghost use Rattle.script.specs.Private.{newReply};
 
 // A session before its first byte. The table of no process stands in for the one that is not made yet.
 pub fn start() -> Session
@@ -35,6 +40,21 @@ pub fn start() -> Session
     }
 }
 
+// The reply to `n`: a refused one keeps the old table.
+fn created(table: ProcessTable, number: u8) -> Reply
+    ensures { λ r. ⌜ r ≡ newReply table number ⌝ }
+{
+    let reply = ProcessTable::create(number);
+    let answer = reply.answer;
+    if is_refused(answer) {
+        return Reply {
+            answer: answer,
+            table: table,
+        };
+    }
+    reply
+}
+
 // Feeds a piece of the input, and writes what its lines print to the start of `out`. No line prints more than 64 bytes, so as many
 // bytes are taken as `out` has room for if each of them ends a line. The session may hold any length: past its 201 bytes it counts as 201.
 pub fn feed(session: Session, piece: &[u8], out: &mut [u8]) -> Fed
@@ -44,7 +64,12 @@ pub fn feed(session: Session, piece: &[u8], out: &mut [u8]) -> Fed
     ensures written { λ r. ⌜ now (out .exit) ≡ fed (stateOf session) (take (r .taken) (now (piece .entry))) .prints ++ drop (r .filled) (now (out .entry)) ⌝ }
 {
     let mut made = session.made;
-    let mut table = session.table;
+    let table = session.table;
+    // no line is answered yet: any answer will do
+    let mut reply = Reply {
+        answer: Answer::Unchanged,
+        table: table,
+    };
     let mut bytes = session.bytes;
     let mut held = least(session.length, MOST_BYTES + 1);
     let taken = least(piece.len(), out.len() / 64);
@@ -55,58 +80,29 @@ pub fn feed(session: Session, piece: &[u8], out: &mut [u8]) -> Fed
         i = i + 1;
         if b == b'\n' {
             let command = line_command(&bytes[..held]);
-            let kind = command.kind;
+            let spelt = command.kind;
+            let kind = ready(made, spelt);
             let number = command.number;
             let list = command.list;
-            held = 0;
-            match ready(made, kind) {
-                Kind::Malformed => {
-                    filled = put(out, filled, malformed_line());
-                }
-                Kind::New => {
-                    let reply = ProcessTable::create(number);
-                    let answer = reply.answer;
-                    filled = put(out, filled, answer_line(command_text(b'n', number), answer));
-                    if !is_refused(answer) {
-                        let fresh = reply.table;
-                        table = fresh;
-                        made = true;
-                    }
-                }
-                Kind::Offer => {
-                    let reply = table.offer_list(number, list);
-                    let answer = reply.answer;
-                    filled = put(out, filled, answer_line(command_text(b'o', number), answer));
-                    let after = reply.table;
-                    table = after;
-                }
-                Kind::Step => {
-                    let reply = table.step(number);
-                    let answer = reply.answer;
-                    filled = put(out, filled, answer_line(command_text(b's', number), answer));
-                    let after = reply.table;
-                    table = after;
-                }
-                Kind::Collect => {
-                    let reply = table.collect(number);
-                    let answer = reply.answer;
-                    filled = put(out, filled, answer_line(command_text(b'c', number), answer));
-                    let after = reply.table;
-                    table = after;
-                }
-                Kind::Movers => {
-                    let reply = table.runnable();
-                    let answer = reply.answer;
-                    filled = put(out, filled, answer_line(Text::empty().byte(b'm'), answer));
-                    let after = reply.table;
-                    table = after;
-                }
+            let table = reply.table;
+            match kind {
+                Kind::Malformed => {}
+                Kind::New => reply = created(table, number),
+                Kind::Offer => reply = table.offer_list(number, list),
+                Kind::Step => reply = table.step(number),
+                Kind::Collect => reply = table.collect(number),
+                Kind::Movers => reply = table.runnable(),
             }
+            let answer = reply.answer;
+            filled = put(out, filled, printed_line(kind, number, answer));
+            made = made_after(made, kind, answer);
+            held = 0;
         } else if held <= MOST_BYTES {
             bytes[held] = b;
             held = held + 1;
         }
     }
+    let last = reply.table;
     Fed {
         taken: taken,
         filled: filled,
@@ -114,7 +110,7 @@ pub fn feed(session: Session, piece: &[u8], out: &mut [u8]) -> Fed
             made: made,
             length: held,
             bytes: bytes,
-            table: table,
+            table: last,
         },
     }
 }

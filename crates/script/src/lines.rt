@@ -10,7 +10,7 @@ ghost use mathlib.Core.Option.{none};
 ghost use Rattle.command.specs.Form.{asParsed};
 ghost use Rattle.script.specs.Lines.{Line, lineCommand};
 ghost use Rattle.script.specs.Session.{isRefused};
-ghost use Rattle.script.specs.Private.{readyKind};
+ghost use Rattle.script.specs.Private.{readyKind, madeAfter};
 
 // The most bytes that a line may have.
 pub const MOST_BYTES: usize = 200;
@@ -70,5 +70,19 @@ pub fn is_refused(answer: Answer) -> bool
         Answer::Unchanged => false,
         Answer::Collected(_, _, _) => false,
         Answer::Runnable(_) => false,
+    }
+}
+
+// Whether a table was made, after a command and its answer: an accepted `n` makes one.
+pub fn made_after(made: bool, kind: Kind, answer: Answer) -> bool
+    ensures { λ r. ⌜ r ≡ madeAfter made kind answer ⌝ }
+{
+    match kind {
+        Kind::New => made | !is_refused(answer),
+        Kind::Malformed => made,
+        Kind::Offer => made,
+        Kind::Step => made,
+        Kind::Collect => made,
+        Kind::Movers => made,
     }
 }

@@ -2,6 +2,7 @@
 use alternative::Found;
 use alternative::Message;
 use alternative::bits_of;
+use command::Kind;
 use process::Place;
 use rendezvous::Answer;
 use text::Text;
@@ -11,6 +12,7 @@ ghost use Rattle.text.specs.Writing.{shown, kept, decimalText};
 ghost use Rattle.process.specs.Process.{letterOf, indexOf};
 ghost use Rattle.rendezvous.specs.Numbers.{Said, said};
 ghost use Rattle.script.specs.Printing.{messageText, field, refusalText, answerText, ended};
+ghost use Rattle.script.specs.Private.{lineText};
 ghost use Rattle.process.specs.Private.{asFound};
 
 // A message as a guard writes it.
@@ -64,7 +66,7 @@ fn answer_text(command: Text, answer: Answer) -> Text
 }
 
 // How the line of a command with a number begins.
-pub fn command_text(letter: u8, number: u8) -> Text
+fn command_text(letter: u8, number: u8) -> Text
     ensures { λ r. ⌜ shown r ≡ letter ∷ field (decimalText number) ⌝ }
 {
     Text::empty().byte(letter).byte(b' ').decimal(number as u32)
@@ -78,8 +80,22 @@ pub fn malformed_line() -> Text
 }
 
 // The line of a command and its answer.
-pub fn answer_line(command: Text, answer: Answer) -> Text
+fn answer_line(command: Text, answer: Answer) -> Text
     ensures { λ r. ⌜ shown r ≡ kept (ended (answerText (shown command) (said answer))) ⌝ }
 {
     answer_text(command, answer).byte(b'\n')
+}
+
+// The line of a command of any kind. A malformed one has no answer.
+pub fn printed_line(kind: Kind, number: u8, answer: Answer) -> Text
+    ensures { λ r. ⌜ shown r ≡ lineText kind number answer ⌝ }
+{
+    match kind {
+        Kind::Malformed => malformed_line(),
+        Kind::New => answer_line(command_text(b'n', number), answer),
+        Kind::Offer => answer_line(command_text(b'o', number), answer),
+        Kind::Step => answer_line(command_text(b's', number), answer),
+        Kind::Collect => answer_line(command_text(b'c', number), answer),
+        Kind::Movers => answer_line(Text::empty().byte(b'm'), answer),
+    }
 }

@@ -7,26 +7,38 @@ use std::thread;
 use std::time::Instant;
 
 const REPEATS: usize = 9;
-const MEETINGS: usize = 20_000;
+const LINES: usize = 100_000;
+const LONG: &str = include_str!("../../../examples/long.script");
+
+/// The long example, again and again.
+fn mixed() -> String {
+    LONG.repeat(LINES / LONG.lines().count() + 1)
+}
 
 /// One meeting after another between parties 0 and 1 of eight.
-fn long_script() -> String {
+fn meetings() -> String {
     let mut meeting = String::from("o 0 1!r40970a3d\no 1 0?\n");
     for party in [0, 0, 0, 0, 0, 1, 1, 1, 1, 0] {
         meeting += &format!("s {party}\n");
     }
     meeting += "c 1\nc 0\nm\n";
-    String::from("n 8\n") + &meeting.repeat(MEETINGS)
+    String::from("n 8\n") + &meeting.repeat(LINES / 15 + 1)
+}
+
+/// Runs both programs on two long scripts.
+pub fn compare(program: &str, model: &str) -> Result<(), String> {
+    println!();
+    compare_on("the long example", &mixed(), program, model)?;
+    compare_on("meetings of two among eight", &meetings(), program, model)
 }
 
 /// Runs both in turn, and prints how many lines each takes a second.
-pub fn compare(program: &str, model: &str) -> Result<(), String> {
-    let script = long_script();
+fn compare_on(name: &str, script: &str, program: &str, model: &str) -> Result<(), String> {
     let lines = script.lines().count() as f64;
     let (mut proved, mut modelled, mut ratios) = (Vec::new(), Vec::new(), Vec::new());
     for _ in 0..REPEATS {
-        let (seconds, output) = run(program, &script)?;
-        let (of_model, expected) = run(model, &script)?;
+        let (seconds, output) = run(program, script)?;
+        let (of_model, expected) = run(model, script)?;
         if output != expected {
             return Err(format!("{program} and {model} differ on the script."));
         }
@@ -36,7 +48,7 @@ pub fn compare(program: &str, model: &str) -> Result<(), String> {
     }
     let (least, greatest) = spread(&ratios);
     println!(
-        "\nScript lines a second, of {lines} lines: {:.0}; the model {:.0}: {:.2} ({least:.2} to {greatest:.2}) times as many.",
+        "Script lines a second, {lines} lines of {name}: {:.0}; the model {:.0}: {:.2} ({least:.2} to {greatest:.2}) times as many.",
         median(&proved),
         median(&modelled),
         median(&ratios),
