@@ -17,7 +17,9 @@
    A message, 9 bytes: 0 nothing, 1 whole number, 2 reading, 3 limit; then a word: the number in two's complement, the reading's bits or
    low's; then a word: high's bits. What a message has no use for is 0.
    Any bytes are read as a table: missing bytes are 0, bytes past the form are not read, a tag past the last is the last, any
-   byte but 0 is true. Every NaN is written as 7fc00000.
+   byte but 0 is true. Every NaN is written as 7fc00000. A refused call writes the table that it read, in this form: the same bytes if
+   they were in this form, else the same table with such bytes replaced (a NaN's payload, a tag past the last, a flag other than 0 and
+   1, what stands in unused bytes).
 
    An answer's form, RENDEZVOUS_ANSWER bytes:
      byte 0      0 made, 1 offered, 2 moved, 3 unchanged, 4 collected, 5 runnable, 6 refused
@@ -34,7 +36,13 @@
    Any bytes are read as a session: missing bytes are 0, any first byte but 0 is true, and a length over 201 is 201.
 
    `out` takes the table that a call hands back and `answer` the answer, each at its front. A buffer that is too short stays as
-   it is, and the call returns false. The buffers of a call must not overlap. */
+   it is, and the call returns false.
+
+   The buffers of a call must not overlap. Every pointer must be valid for its length, and `taken` and `filled` must point to a size_t:
+   that is C's part, and nothing checks it.
+
+   A call is one step of the whole table. Where two cores share a table, hold one lock from reading the table to storing the one that
+   the call hands back. In which order the cores get the lock does not matter: that is demand 3 (crates/history/specs/Demand3.antt). */
 #ifndef RENDEZVOUS_H
 #define RENDEZVOUS_H
 

@@ -1,5 +1,5 @@
 //! Process 0 offers the reading 4.72 to process 1, which takes it: the proved library from Rust.
-//! rustc -L target/staticlib -l static=exports examples/link/session.rs
+//! rustc --edition 2021 -L target/staticlib -l static=exports examples/link/session.rs -o target/session-rust
 
 const TABLE: usize = 7109;
 const ANSWER: usize = 16;
