@@ -42,7 +42,7 @@ pub enum Stuck {
     NothingDue { party: usize },
 }
 
-#[derive(Clone, Debug)]
+#[derive(Clone, Debug, Default)]
 pub struct Book {
     open: BTreeMap<usize, OpenOffer>,
     due: BTreeMap<usize, Outcome>,
@@ -50,22 +50,7 @@ pub struct Book {
     meetings: Vec<Meeting>,
 }
 
-impl Default for Book {
-    fn default() -> Book {
-        Book::new()
-    }
-}
-
 impl Book {
-    pub fn new() -> Book {
-        Book {
-            open: BTreeMap::new(),
-            due: BTreeMap::new(),
-            next_ticket: Ticket(0),
-            meetings: Vec::new(),
-        }
-    }
-
     /// Enters one call. `answer` is the place that a step said, if it said one.
     /// A stuck book stays as it was.
     pub fn feed(

@@ -9,7 +9,7 @@ use crate::refusal::Refusal;
 use crate::rules;
 
 /// The number of one offer: the smaller one is older.
-#[derive(Clone, Copy, Debug, PartialEq, Eq, PartialOrd, Ord)]
+#[derive(Clone, Copy, Debug, Default, PartialEq, Eq, PartialOrd, Ord)]
 pub struct Ticket(pub u32);
 
 /// The record of one party.

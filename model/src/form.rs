@@ -5,7 +5,7 @@ use crate::guard::Guard;
 use crate::place::Place;
 
 pub fn in_form(desk: &Desk) -> bool {
-    // The document knows no desk with fewer records than parties; here such a
+    // Document 01 knows no desk with fewer records than parties; here such a
     // desk can be written down, so it counts as out of form.
     (2..=32).contains(&desk.n)
         && desk.parties.len() >= desk.n

@@ -1,23 +1,23 @@
 //! A plain model of the desk through which the tasks of one logger meet.
 //!
-//! It is written from the scope document alone, with ordinary vectors and
+//! It is written from document 01 alone, with ordinary vectors and
 //! changes in place, so that it can be compared with any other program.
 
-pub mod book;
+mod book;
 pub mod by_value;
-pub mod call;
-pub mod desk;
+mod call;
+mod desk;
 mod form;
 pub mod guard;
-pub mod line;
-pub mod message;
-pub mod place;
-pub mod refusal;
+mod line;
+mod message;
+mod place;
+mod refusal;
 mod rules;
 pub mod script;
 
 pub use book::{Book, Entry, Meeting, Stuck};
-pub use call::Call;
+pub use call::{Call, Given};
 pub use desk::{Desk, OpenOffer, Outcome, Party, Ticket};
 pub use guard::{Action, Guard};
 pub use message::Message;

@@ -1,4 +1,4 @@
-//! Why a call is turned away, with the document's numbers.
+//! Why a call is turned away, with document 01's numbers.
 
 #[derive(Clone, Copy, Debug, PartialEq, Eq)]
 pub enum Refusal {

@@ -8,6 +8,8 @@ mod by_value;
 mod in_place;
 mod plan;
 mod proved;
+#[path = "../../../crates/exports/rendezvous.rs"]
+mod rendezvous;
 mod script;
 mod through_bytes;
 mod timing;

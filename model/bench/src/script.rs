@@ -22,7 +22,8 @@ fn meetings() -> String {
         meeting += &format!("s {party}\n");
     }
     meeting += "c 1\nc 0\nm\n";
-    String::from("n 8\n") + &meeting.repeat(LINES / 15 + 1)
+    let count = LINES / meeting.lines().count() + 1;
+    String::from("n 8\n") + &meeting.repeat(count)
 }
 
 /// Runs both programs on two long scripts.

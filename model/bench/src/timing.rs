@@ -5,7 +5,7 @@ use crate::{by_value, in_place, proved};
 use std::hint::black_box;
 use std::time::Instant;
 
-/// At least seven repeats are asked for; an odd number has a median.
+/// An odd number, so that one of the repeats is the median.
 pub const REPEATS: usize = 11;
 /// A repeat's figure is the least of so many runs of each loop.
 const RUNS: usize = 40;

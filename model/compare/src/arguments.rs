@@ -1,7 +1,8 @@
 //! The command line.
 
 use crate::part::Budget;
-use std::path::{Path, PathBuf};
+use crate::program::Program;
+use std::path::Path;
 use std::time::Duration;
 
 pub const USAGE: &str = "\
@@ -69,7 +70,7 @@ pub enum Task {
 pub struct Arguments {
     pub task: Task,
     pub budget: Budget,
-    pub program: PathBuf,
+    pub program: Program,
     pub both_sides_model: bool,
 }
 
@@ -83,7 +84,9 @@ pub fn read(words: &[String]) -> Result<Arguments, String> {
             seed: 1,
             time: Duration::from_secs(10),
         },
-        program: Path::new(env!("CARGO_MANIFEST_DIR")).join("../../target/bin/script_main"),
+        program: Program {
+            path: Path::new(env!("CARGO_MANIFEST_DIR")).join("../../target/bin/script_main"),
+        },
         both_sides_model: false,
     };
     let mut rest = rest.iter();
@@ -92,7 +95,7 @@ pub fn read(words: &[String]) -> Result<Arguments, String> {
         match word.as_str() {
             "--seconds" => arguments.budget.time = seconds(value()?)?,
             "--seed" => arguments.budget.seed = number(value()?)?,
-            "--program" => arguments.program = PathBuf::from(value()?),
+            "--program" => arguments.program.path = value()?.into(),
             "--model" => arguments.both_sides_model = true,
             _ if task == Task::Long => arguments.budget.time = seconds(word)? * 60,
             _ if task == Task::One(Part::Fuzz) => arguments.budget.time = seconds(word)?,

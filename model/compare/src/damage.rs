@@ -3,8 +3,8 @@
 
 use crate::draw::{self, list, message};
 use crate::random::Random;
-use crate::wire::RECORDS;
-use model::{Action, Call, Desk, Guard, IndexedMessage, Party, Place, Ticket};
+use crate::wire::{BLANK, RECORDS};
+use model::{Call, Desk, Guard, IndexedMessage, Party, Place, Ticket};
 
 /// One float in so many of a damaged desk is not a number.
 const NAN_IN: usize = 4;
@@ -186,12 +186,7 @@ fn past(random: &mut Random, count: usize) -> usize {
 }
 
 fn overfill(random: &mut Random, list: &mut Vec<Guard>) {
-    let blank = Guard {
-        enabled: false,
-        partner: 0,
-        action: Action::Receive,
-    };
-    list.resize(random.pick(&[9, 10, 32, 255]), blank);
+    list.resize(random.pick(&[9, 10, 32, 255]), BLANK);
 }
 
 fn misname(random: &mut Random, list: &mut [Guard], partner: usize) -> bool {
@@ -267,14 +262,12 @@ pub fn changed_desk(random: &mut Random) -> Desk {
     let mut desk = Desk::new(n).expect("2 to 5 parties");
     for _ in 0..random.below(60) {
         let party = random.below(n);
-        // A refused call is as good as another here.
-        let _ = match random.below(4) {
-            0 => match draw::offer(random, party, n) {
-                Call::Offer { guards, .. } => desk.offer(party, &guards).is_ok(),
-                _ => false,
-            },
-            _ => desk.step(party).is_ok(),
+        let call = match random.below(4) {
+            0 => draw::offer(random, party, n),
+            _ => Call::Step { party },
         };
+        // A refused call is as good as another here.
+        let _ = call.on(&mut desk);
     }
     let party = random.below(n);
     change_one_value(random, &mut desk.parties[party]);

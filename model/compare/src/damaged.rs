@@ -3,7 +3,7 @@
 use crate::damage::{self, POINTS};
 use crate::draw;
 use crate::library::{both, line, Library};
-use crate::part::{Budget, Finding, Outcome};
+use crate::part::{Budget, Finding, Verdict};
 use crate::random::Random;
 use crate::reduce_desk::reduce;
 use crate::tally::Tally;
@@ -14,7 +14,7 @@ use model::{Call, Desk};
 const TABLES: usize = 40;
 const CALLS: usize = 8;
 
-pub fn run(library: &dyn Library, budget: Budget) -> Outcome {
+pub fn run(library: &dyn Library, budget: Budget) -> Verdict {
     let mut tally = Tally::new();
     let mut tables = 0;
     for seed in budget.seeds() {

@@ -1,9 +1,10 @@
 //! One run from a fresh table: the library, the model and the plain book side
 //! by side, with every clause of demand 3 checked after every call.
 
-use crate::library::{both, Given, Library, Reply};
-use crate::wire::Table;
-use model::{Answer, Book, Call, Desk, Entry, Guard, Meeting, OpenOffer, Ticket};
+use crate::library::{both, fresh, line, Library, Reply};
+use crate::reduce::smallest;
+use crate::wire::{encode, Table};
+use model::{Answer, Book, Call, Desk, Entry, Given, Guard, Meeting, OpenOffer, Ticket};
 use std::collections::BTreeSet;
 
 #[derive(Clone)]
@@ -18,15 +19,13 @@ pub struct Follow {
 impl Follow {
     pub fn new(library: &dyn Library, n: usize) -> Result<Follow, String> {
         let desk = Desk::new(n).expect("2 to 32 parties");
-        let table = library
-            .create(n as u8)
-            .map_err(|number| format!("a table of {n} is refused by {number}"))?;
-        match table.first_difference(&crate::wire::encode(&desk)) {
+        let table = fresh(library, n)?;
+        match table.first_difference(&encode(&desk)) {
             Some(place) => Err(format!("the fresh tables differ at {place}")),
             None => Ok(Follow {
                 table,
                 desk,
-                book: Book::new(),
+                book: Book::default(),
                 met: BTreeSet::new(),
             }),
         }
@@ -144,7 +143,8 @@ impl Follow {
 }
 
 /// Two guards match: both are enabled, each names the other's party, and one
-/// sends while the other receives.
+/// sends while the other receives. The book finds its guards by the model's own
+/// test; a check by the same test could not fail.
 fn fit(p: usize, own: &Guard, q: usize, other: &Guard) -> bool {
     own.enabled
         && other.enabled
@@ -160,6 +160,34 @@ fn offers_match(one: &OpenOffer, other: &OpenOffer) -> bool {
             .iter()
             .any(|theirs| fit(one.party, own, other.party, theirs))
     })
+}
+
+/// The complaint, with the shortest list of calls that still brings a complaint.
+pub fn told(library: &dyn Library, n: usize, calls: &[Call], text: &str) -> String {
+    if replay(library, n, calls).is_ok() {
+        return format!("{text}\n(the same calls once more bring no difference)");
+    }
+    let short = smallest(calls, |some| replay(library, n, some).is_err());
+    let again = replay(library, n, &short).err();
+    let mut script = format!("n {n}\n");
+    for call in &short {
+        script.push_str(&line(call));
+        script.push('\n');
+    }
+    let count = calls.len();
+    let again = again.unwrap_or_default();
+    format!(
+        "{text}\nafter {count} calls; these {} give: {again}\n{script}",
+        short.len()
+    )
+}
+
+fn replay(library: &dyn Library, n: usize, calls: &[Call]) -> Result<(), String> {
+    let mut follow = Follow::new(library, n)?;
+    for call in calls {
+        let _refused_or_not = follow.call(library, call)?;
+    }
+    Ok(())
 }
 
 fn expect(holds: bool, complaint: &str) -> Result<(), String> {

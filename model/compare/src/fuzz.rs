@@ -1,7 +1,7 @@
 //! A mutator over the bytes of scripts: inputs that were spoiled once are
 //! spoiled again, so that strange ones come about step by step.
 
-use crate::part::{Budget, Finding, Outcome};
+use crate::part::{Budget, Finding, Verdict};
 use crate::program::{Program, WHOLE};
 use crate::random::Random;
 use crate::scripts::told;
@@ -13,7 +13,7 @@ use std::io::Read;
 const POOL: usize = 64;
 const LONGEST: usize = 20_000;
 
-pub fn run(program: &Program, budget: Budget) -> Outcome {
+pub fn run(program: &Program, budget: Budget) -> Verdict {
     let mut random = Random::new(budget.seed);
     let mut pool: Vec<Vec<u8>> = (0..POOL).map(|_| script(&mut random)).collect();
     let mut inputs = 0_u64;

@@ -1,22 +1,14 @@
 //! Every order of calls, for two and three processes with short lists: the
 //! library is driven along each edge of the whole graph of states.
 
-use crate::follow::Follow;
-use crate::library::{Given, Library};
-use crate::part::{Budget, Finding, Outcome};
-use crate::random::Random;
-use crate::reached::told;
+use crate::follow::{told, Follow};
+use crate::library::Library;
+use crate::part::{Budget, Finding, Verdict};
+use crate::plans::{plans, Plan, PAIRS, TRIPLES};
 use crate::wire::put_message;
-use model::{Action, Call, Guard, Message};
+use model::{Call, Given};
 use std::collections::HashSet;
 use std::time::Instant;
-
-/// How many plans of one offer each there are.
-const PAIRS: usize = 14 * 14;
-const TRIPLES: usize = 20 * 20 * 20;
-
-/// For each process the lists that it offers one after the other.
-type Plan = Vec<Vec<Vec<Guard>>>;
 
 #[derive(Default)]
 struct Sums {
@@ -30,7 +22,7 @@ struct Sums {
     rests: u64,
 }
 
-pub fn run(library: &dyn Library, budget: Budget) -> Outcome {
+pub fn run(library: &dyn Library, budget: Budget) -> Verdict {
     let end = budget.end();
     let mut sums = Sums::default();
     for plan in plans(budget.seed) {
@@ -67,117 +59,6 @@ impl Sums {
     }
 }
 
-/// First every plan of one offer each for two processes; then, shuffled, every
-/// plan of one offer each for three; then further offers without an end.
-fn plans(seed: u64) -> impl Iterator<Item = Plan> {
-    let mut random = Random::new(seed);
-    let two = every_pair();
-    let mut three = every_triple();
-    random.shuffle(&mut three);
-    let longer = std::iter::from_fn(move || Some(longer_plan(&mut random)));
-    two.into_iter().chain(alternate(three, longer))
-}
-
-/// One of each in turn, and the endless ones alone once the others are used up.
-fn alternate(
-    some: Vec<Plan>,
-    mut endless: impl Iterator<Item = Plan>,
-) -> impl Iterator<Item = Plan> {
-    let mut some = some.into_iter();
-    let mut turn = false;
-    std::iter::from_fn(move || {
-        turn = !turn;
-        match turn {
-            true => some.next().or_else(|| endless.next()),
-            false => endless.next(),
-        }
-    })
-}
-
-fn every_pair() -> Vec<Plan> {
-    let (first, second) = (lists(0, 2, true), lists(1, 2, true));
-    let mut plans = Vec::new();
-    for one in &first {
-        for other in &second {
-            plans.push(vec![vec![one.clone()], vec![other.clone()]]);
-        }
-    }
-    plans
-}
-
-fn every_triple() -> Vec<Plan> {
-    let all: Vec<_> = (0..3).map(|party| lists(party, 3, false)).collect();
-    let mut plans = Vec::new();
-    for one in &all[0] {
-        for two in &all[1] {
-            for three in &all[2] {
-                plans.push([one, two, three].map(|list| vec![list.clone()]).to_vec());
-            }
-        }
-    }
-    plans
-}
-
-/// Two or three processes, one or two of which offer twice.
-fn longer_plan(random: &mut Random) -> Plan {
-    let n = 2 + random.below(2);
-    let twice = random.below(n);
-    let both = n == 2 && random.one_in(2);
-    (0..n)
-        .map(|party| {
-            let choices = lists(party, n, n == 2);
-            let count = if both || party == twice { 2 } else { 1 };
-            let mut draw = |offer| {
-                let mut list = choices[random.below(choices.len())].clone();
-                number(&mut list, party, offer);
-                list
-            };
-            (0..count).map(&mut draw).collect()
-        })
-        .collect()
-}
-
-/// Every list of one or two guards with an enabled one among them.
-fn lists(party: usize, n: usize, with_disabled: bool) -> Vec<Vec<Guard>> {
-    let mut guards = Vec::new();
-    for partner in (0..n).filter(|&other| other != party) {
-        for sends in [false, true] {
-            guards.push(guard(partner, sends, true));
-            if with_disabled {
-                guards.push(guard(partner, sends, false));
-            }
-        }
-    }
-    let mut lists: Vec<Vec<Guard>> = guards.iter().map(|&guard| vec![guard]).collect();
-    for &one in &guards {
-        lists.extend(guards.iter().map(|&other| vec![one, other]));
-    }
-    lists.retain(|list| list.iter().any(|guard| guard.enabled));
-    lists.iter_mut().for_each(|list| number(list, party, 0));
-    lists
-}
-
-fn guard(partner: usize, sends: bool, enabled: bool) -> Guard {
-    Guard {
-        enabled,
-        partner,
-        action: match sends {
-            true => Action::Send(Message::Nothing),
-            false => Action::Receive,
-        },
-    }
-}
-
-/// Gives every sending guard of a party's offers a message of its own.
-fn number(list: &mut [Guard], party: usize, offer: usize) {
-    for (index, guard) in list.iter_mut().enumerate() {
-        if guard.sends() {
-            let whole = 100 * offer + 10 * party + index + 1;
-            guard.action = Action::Send(Message::Whole(whole as i32));
-        }
-    }
-}
-
 /// A state of the graph, with the call that led there from an earlier one.
 struct State {
     follow: Follow,
@@ -188,6 +69,8 @@ struct State {
 /// The calls that led to each state, as a tree.
 type Paths = Vec<Option<(usize, Call)>>;
 
+/// Goes through every state that the calls of a plan lead to. A plan that is not
+/// explored whole when the time is up is not counted; the first one always is.
 fn explore(
     library: &dyn Library,
     plan: &Plan,
@@ -294,6 +177,7 @@ fn key(state: &State, n: usize) -> Vec<u8> {
 mod tests {
     use super::*;
     use crate::library::Modelled;
+    use crate::plans::guard;
     use std::time::Duration;
 
     fn explored(plan: &Plan) -> Sums {
@@ -320,11 +204,5 @@ mod tests {
             vec![vec![guard(0, true, true)]],
         ]);
         assert!(sums.pairs == 1 && sums.commits == 0 && sums.rests > 0);
-    }
-
-    #[test]
-    fn the_plans_are_all_there() {
-        assert_eq!(every_pair().len(), PAIRS);
-        assert_eq!(every_triple().len(), TRIPLES);
     }
 }

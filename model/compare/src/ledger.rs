@@ -1,11 +1,13 @@
 //! Messages alone, without table, model or book: what was collected was sent,
 //! to the one who collected it, and nothing is lost or given twice.
 
-use crate::library::Given;
-use crate::stress::History;
 use crate::wire::put_message;
-use model::{Call, Guard, Message, Outcome};
+use model::{Call, Given, Guard, Message, Outcome};
 use std::collections::{BTreeMap, BTreeSet};
+
+/// Calls in the order in which they were made, each with what it said or the
+/// number of its refusal.
+pub type History = Vec<(Call, Result<Given, u8>)>;
 
 /// A message's nine bytes. In a history that is checked no two guards send the
 /// same.

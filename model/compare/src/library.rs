@@ -2,17 +2,7 @@
 //! comparison of one call with the model's.
 
 use crate::wire::{decode, encode, normal, one_nan, Table};
-use model::{Answer, Call, Desk, Outcome, Refusal, Ticket};
-
-/// What an accepted call says.
-#[derive(Clone, Copy, Debug, PartialEq, Eq)]
-pub enum Given {
-    Ticket(Ticket),
-    /// The new place of a step; none if nothing changed.
-    Place(Option<Answer>),
-    Outcome(Outcome),
-    Set(u32),
-}
+use model::{Action, Call, Desk, Given, Guard, Outcome, Refusal};
 
 /// What a call says, or the number of its refusal; and the table given back.
 #[derive(Clone, Debug, PartialEq, Eq)]
@@ -24,6 +14,12 @@ pub struct Reply {
 pub trait Library: Sync {
     fn create(&self, n: u8) -> Result<Table, u8>;
     fn call(&self, table: &Table, call: &Call) -> Reply;
+}
+
+/// A fresh table of `n` processes, 2 to 32 of them.
+pub fn fresh(library: &dyn Library, n: usize) -> Result<Table, String> {
+    let made = library.create(n as u8);
+    made.map_err(|number| format!("a table of {n} is refused by {number}"))
 }
 
 /// The model behind the byte form, to try the comparison on itself.
@@ -58,18 +54,14 @@ fn changes(answer: &Result<Given, u8>) -> bool {
 /// Makes a call in the model. A NaN is given in the one way that the byte form
 /// has for it.
 pub fn in_model(desk: &mut Desk, call: &Call) -> Result<Given, u8> {
-    let given = match call {
-        Call::Offer { party, guards } => desk.offer(*party, guards).map(Given::Ticket),
-        Call::Step { party } => desk.step(*party).map(Given::Place),
-        Call::Collect { party } => desk.collect(*party).map(|outcome| {
-            Given::Outcome(Outcome {
-                message: one_nan(outcome.message),
-                ..outcome
-            })
-        }),
-        Call::Movers => desk.movers().map(Given::Set),
-    };
-    given.map_err(Refusal::number)
+    match call.on(desk) {
+        Ok(Given::Outcome(outcome)) => Ok(Given::Outcome(Outcome {
+            message: one_nan(outcome.message),
+            ..outcome
+        })),
+        Ok(given) => Ok(given),
+        Err(refusal) => Err(refusal.number()),
+    }
 }
 
 /// Makes a call on both sides. `desk` is what `table` says and is moved along;
@@ -129,11 +121,11 @@ pub fn line(call: &Call) -> String {
     }
 }
 
-fn guard_text(guard: &model::Guard) -> String {
+fn guard_text(guard: &Guard) -> String {
     let sign = if guard.enabled { "" } else { "-" };
     let partner = guard.partner;
     match guard.action {
-        model::Action::Receive => format!(" {sign}{partner}?"),
-        model::Action::Send(message) => format!(" {sign}{partner}!{message}"),
+        Action::Receive => format!(" {sign}{partner}?"),
+        Action::Send(message) => format!(" {sign}{partner}!{message}"),
     }
 }

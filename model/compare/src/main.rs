@@ -16,12 +16,15 @@ mod library;
 mod nan;
 mod pace;
 mod part;
+mod plans;
 mod program;
 mod proved;
 mod random;
 mod reached;
 mod reduce;
 mod reduce_desk;
+#[path = "../../../crates/exports/rendezvous.rs"]
+mod rendezvous;
 mod scripts;
 mod spoil;
 mod stress;
@@ -31,8 +34,7 @@ mod write;
 
 use arguments::{Arguments, Part, Task, PARTS};
 use library::{Library, Modelled};
-use part::{Budget, Outcome};
-use program::Program;
+use part::{Budget, Verdict};
 use proved::Proved;
 use std::process::ExitCode;
 use std::time::{Duration, Instant, SystemTime, UNIX_EPOCH};
@@ -55,7 +57,7 @@ fn main() -> ExitCode {
         Task::All => all(&arguments, arguments.budget, &mut counts),
         Task::Long => long(&arguments, &mut counts),
         Task::Once => {
-            fuzz::once(&program(&arguments));
+            fuzz::once(&arguments.program);
             return ExitCode::SUCCESS;
         }
     }
@@ -74,7 +76,7 @@ struct Counts {
 
 /// Runs one part and says what it gave.
 fn one(arguments: &Arguments, part: Part, budget: Budget, counts: &mut Counts) {
-    match outcome(arguments, part, budget) {
+    match verdict(arguments, part, budget) {
         Ok(summary) => {
             counts.passed += 1;
             println!("{summary} (seed {})", budget.seed);
@@ -87,26 +89,20 @@ fn one(arguments: &Arguments, part: Part, budget: Budget, counts: &mut Counts) {
     }
 }
 
-fn outcome(arguments: &Arguments, part: Part, budget: Budget) -> Outcome {
+fn verdict(arguments: &Arguments, part: Part, budget: Budget) -> Verdict {
     let library: &dyn Library = match arguments.both_sides_model {
         true => &Modelled,
         false => &Proved,
     };
-    let program = program(arguments);
+    let program = &arguments.program;
     match part {
-        Part::Scripts => scripts::run(&program, budget),
+        Part::Scripts => scripts::run(program, budget),
         Part::Reached => reached::run(library, budget),
         Part::Damaged => damaged::run(library, budget),
         Part::Nan => nan::run(budget),
         Part::Interleavings => interleavings::run(library, budget),
         Part::Stress => stress::run(library, budget),
-        Part::Fuzz => fuzz::run(&program, budget),
-    }
-}
-
-fn program(arguments: &Arguments) -> Program {
-    Program {
-        path: arguments.program.clone(),
+        Part::Fuzz => fuzz::run(program, budget),
     }
 }
 

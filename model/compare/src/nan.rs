@@ -3,14 +3,14 @@
 //! that no contract can say it.
 
 use crate::draw::NANS;
-use crate::part::{Budget, Finding, Outcome};
-use crate::proved::{limit_through, reading_through};
+use crate::part::{Budget, Finding, Verdict};
 use crate::random::Random;
+use crate::rendezvous::{high_through, low_through, reading_through};
 
 /// Further patterns, drawn at random.
 const RANDOM_NANS: usize = 10_000;
 
-pub fn run(budget: Budget) -> Outcome {
+pub fn run(budget: Budget) -> Verdict {
     let mut random = Random::new(budget.seed);
     let drawn = (0..RANDOM_NANS).map(|_| random.bits() | 0x7f80_0000);
     let patterns: Vec<u32> = NANS.into_iter().chain(drawn).collect();
@@ -24,9 +24,12 @@ pub fn run(budget: Budget) -> Outcome {
 }
 
 fn kept(one: u32, other: u32) -> Result<(), String> {
-    let (low, high) = limit_through(f32::from_bits(one), f32::from_bits(other));
-    let reading = reading_through(f32::from_bits(one));
-    let given = (reading.to_bits(), low.to_bits(), high.to_bits());
+    let (low, high) = (f32::from_bits(one), f32::from_bits(other));
+    let given = (
+        reading_through(low).to_bits(),
+        low_through(low, high).to_bits(),
+        high_through(low, high).to_bits(),
+    );
     match given == (one, one, other) {
         true => Ok(()),
         false => Err(format!(

@@ -19,7 +19,7 @@ impl Finding {
 }
 
 /// The summary line of a part that found nothing, or what it found.
-pub type Outcome = Result<String, Finding>;
+pub type Verdict = Result<String, Finding>;
 
 #[derive(Clone, Copy)]
 pub struct Budget {

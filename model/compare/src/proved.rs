@@ -1,82 +1,15 @@
-//! The proved library, through the functions that it exports for other
-//! languages. This is the only file that knows how they are called.
-//!
-//! A slice passes as a pointer and a length. Every call writes the table into
-//! one buffer and its answer into another of 16 bytes: kind, two small numbers,
-//! a message (9) and a word (4).
+//! The proved library, through the bytes of its tables and answers.
 
-use crate::library::{Given, Library, Reply};
+use crate::library::{Library, Reply};
+use crate::rendezvous::{self, ANSWER};
 use crate::wire::{message_of, put_guard, Table};
-use model::{Answer, Call, Outcome, Ticket};
-
-const ANSWER: usize = 16;
-
-extern "C" {
-    fn rendezvous_create(
-        n: u8,
-        out: *mut u8,
-        out_length: usize,
-        answer: *mut u8,
-        answer_length: usize,
-    ) -> bool;
-    fn rendezvous_offer(
-        table: *const u8,
-        table_length: usize,
-        p: u8,
-        guards: *const u8,
-        guards_length: usize,
-        out: *mut u8,
-        out_length: usize,
-        answer: *mut u8,
-        answer_length: usize,
-    ) -> bool;
-    fn rendezvous_step(
-        table: *const u8,
-        table_length: usize,
-        p: u8,
-        out: *mut u8,
-        out_length: usize,
-        answer: *mut u8,
-        answer_length: usize,
-    ) -> bool;
-    fn rendezvous_collect(
-        table: *const u8,
-        table_length: usize,
-        p: u8,
-        out: *mut u8,
-        out_length: usize,
-        answer: *mut u8,
-        answer_length: usize,
-    ) -> bool;
-    fn rendezvous_runnable(
-        table: *const u8,
-        table_length: usize,
-        out: *mut u8,
-        out_length: usize,
-        answer: *mut u8,
-        answer_length: usize,
-    ) -> bool;
-    fn rendezvous_reading_through(x: f32) -> f32;
-    fn rendezvous_low_through(low: f32, high: f32) -> f32;
-    fn rendezvous_high_through(low: f32, high: f32) -> f32;
-}
+use model::{Answer, Call, Given, Guard, Outcome, Ticket};
 
 pub struct Proved;
 
 impl Library for Proved {
     fn create(&self, n: u8) -> Result<Table, u8> {
-        let (table, said) = into_buffers(|out, answer| {
-            // SAFETY: both slices are lent for the call alone.
-            unsafe {
-                rendezvous_create(
-                    n,
-                    out.as_mut_ptr(),
-                    out.len(),
-                    answer.as_mut_ptr(),
-                    answer.len(),
-                )
-            }
-        });
+        let (table, said) = into_buffers(|out, answer| rendezvous::create(n, out, answer));
         match read(&said) {
             Said::Made => Ok(table),
             Said::Refused(number) => Err(number),
@@ -85,21 +18,21 @@ impl Library for Proved {
     }
 
     fn call(&self, table: &Table, call: &Call) -> Reply {
-        let (after, said) = match call {
-            Call::Offer { party, guards } => offer(table, *party as u8, guards),
-            Call::Step { party } => by_process(rendezvous_step, table, *party as u8),
-            Call::Collect { party } => by_process(rendezvous_collect, table, *party as u8),
-            Call::Movers => runnable(table),
-        };
+        let before = table.bytes();
+        let (table, said) = into_buffers(|out, answer| match call {
+            Call::Offer { party, guards } => {
+                rendezvous::offer(before, *party as u8, &list(guards), out, answer)
+            }
+            Call::Step { party } => rendezvous::step(before, *party as u8, out, answer),
+            Call::Collect { party } => rendezvous::collect(before, *party as u8, out, answer),
+            Call::Movers => rendezvous::runnable(before, out, answer),
+        });
         let answer = match read(&said) {
             Said::Given(given) => Ok(given),
             Said::Refused(number) => Err(number),
             Said::Made => panic!("a call on a table answers that it made one"),
         };
-        Reply {
-            answer,
-            table: after,
-        }
+        Reply { answer, table }
     }
 }
 
@@ -114,67 +47,13 @@ fn into_buffers(call: impl FnOnce(&mut [u8], &mut [u8]) -> bool) -> (Table, [u8;
     (out, answer)
 }
 
-fn offer(table: &Table, party: u8, guards: &[model::Guard]) -> (Table, [u8; ANSWER]) {
-    let mut list = Vec::new();
+/// The guards of an offer in their byte form.
+fn list(guards: &[Guard]) -> Vec<u8> {
+    let mut bytes = Vec::new();
     for guard in guards {
-        put_guard(&mut list, guard);
+        put_guard(&mut bytes, guard);
     }
-    let table = table.bytes();
-    into_buffers(|out, answer| {
-        // SAFETY: all four slices are lent for the call alone, and those that
-        // are written lie apart from the others.
-        unsafe {
-            rendezvous_offer(
-                table.as_ptr(),
-                table.len(),
-                party,
-                list.as_ptr(),
-                list.len(),
-                out.as_mut_ptr(),
-                out.len(),
-                answer.as_mut_ptr(),
-                answer.len(),
-            )
-        }
-    })
-}
-
-type ByProcess = unsafe extern "C" fn(*const u8, usize, u8, *mut u8, usize, *mut u8, usize) -> bool;
-
-/// A step or a collection.
-fn by_process(function: ByProcess, table: &Table, party: u8) -> (Table, [u8; ANSWER]) {
-    let table = table.bytes();
-    into_buffers(|out, answer| {
-        // SAFETY: as in `offer`.
-        unsafe {
-            function(
-                table.as_ptr(),
-                table.len(),
-                party,
-                out.as_mut_ptr(),
-                out.len(),
-                answer.as_mut_ptr(),
-                answer.len(),
-            )
-        }
-    })
-}
-
-fn runnable(table: &Table) -> (Table, [u8; ANSWER]) {
-    let table = table.bytes();
-    into_buffers(|out, answer| {
-        // SAFETY: as in `offer`.
-        unsafe {
-            rendezvous_runnable(
-                table.as_ptr(),
-                table.len(),
-                out.as_mut_ptr(),
-                out.len(),
-                answer.as_mut_ptr(),
-                answer.len(),
-            )
-        }
-    })
+    bytes
 }
 
 #[derive(Debug, PartialEq)]
@@ -215,26 +94,10 @@ fn place(letter: char, index: usize) -> Answer {
     Answer { letter, index }
 }
 
-/// A value by way of the compiled code's message, guard, record and table.
-pub fn reading_through(value: f32) -> f32 {
-    // SAFETY: numbers go in and come out.
-    unsafe { rendezvous_reading_through(value) }
-}
-
-/// The same by way of a limit: low and high as they come back.
-pub fn limit_through(low: f32, high: f32) -> (f32, f32) {
-    // SAFETY: numbers go in and come out.
-    unsafe {
-        (
-            rendezvous_low_through(low, high),
-            rendezvous_high_through(low, high),
-        )
-    }
-}
-
 #[cfg(test)]
 mod tests {
     use super::*;
+    use crate::rendezvous::{LINE, SESSION, TABLE};
     use model::Message;
 
     fn answer(start: [u8; 3], message: &[u8], word: [u8; 4]) -> [u8; ANSWER] {
@@ -307,16 +170,57 @@ mod tests {
 
     #[test]
     fn a_buffer_that_is_too_short_is_left_alone() {
-        for (table, answer) in [(7108, ANSWER), (7109, ANSWER - 1), (0, 0)] {
+        for (table, answer) in [(TABLE - 1, ANSWER), (TABLE, ANSWER - 1), (0, 0)] {
             let mut out = vec![0xee; table];
             let mut said = vec![0xee; answer];
-            // SAFETY: both slices are lent for the call alone.
-            let written =
-                unsafe { rendezvous_create(2, out.as_mut_ptr(), table, said.as_mut_ptr(), answer) };
             let untouched = |bytes: &[u8]| bytes.iter().all(|&byte| byte == 0xee);
-            assert!(!written);
-            assert_eq!(untouched(&out), table < 7109);
+            assert!(!rendezvous::create(2, &mut out, &mut said));
+            assert_eq!(untouched(&out), table < TABLE);
             assert_eq!(untouched(&said), answer < ANSWER);
         }
+    }
+
+    /// What the script program prints by way of its calls, for an input in
+    /// pieces. `room` is how many lines the output of one call may have.
+    fn printed(input: &[u8], piece: usize, room: usize) -> Vec<u8> {
+        let (mut session, mut after) = ([0xee; SESSION], [0xee; SESSION]);
+        let mut out = vec![0xee; room * LINE];
+        let mut output = Vec::new();
+        assert!(rendezvous::script_start(&mut session));
+        for mut rest in input.chunks(piece) {
+            while !rest.is_empty() {
+                let fed = rendezvous::script_feed(&session, rest, &mut after, &mut out);
+                let (taken, filled) = fed.expect("the session fits");
+                assert_eq!(taken, rest.len().min(room));
+                output.extend(&out[..filled]);
+                rest = &rest[taken..];
+                session = after;
+            }
+        }
+        let filled = rendezvous::script_finish(&session, &mut out);
+        output.extend(&out[..filled]);
+        output
+    }
+
+    #[test]
+    fn the_script_program_is_there_too() {
+        let script = include_bytes!("../../../examples/messages.script");
+        let unended = &script[..script.len() - 1];
+        for (piece, room) in [(1, 1), (7, 3), (200, 400), (script.len(), 1000)] {
+            for input in [script.as_slice(), unended] {
+                assert_eq!(printed(input, piece, room), model::script::run(input));
+            }
+        }
+    }
+
+    #[test]
+    fn a_session_that_does_not_fit_is_left_alone() {
+        let (mut session, mut short) = ([0; SESSION], [0xee; SESSION - 1]);
+        assert!(rendezvous::script_start(&mut session));
+        assert!(!rendezvous::script_start(&mut short));
+        let fed = rendezvous::script_feed(&session, b"m\n", &mut short, &mut [0; 2 * LINE]);
+        assert_eq!(fed, None);
+        assert!(short.iter().all(|&byte| byte == 0xee));
+        assert_eq!(rendezvous::script_finish(&session, &mut [0; LINE - 1]), 0);
     }
 }

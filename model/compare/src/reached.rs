@@ -1,13 +1,12 @@
 //! Random runs from fresh tables of 2 to 32 processes, call by call.
 
 use crate::draw;
-use crate::follow::Follow;
-use crate::library::{line, Given, Library};
+use crate::follow::{told, Follow};
+use crate::library::Library;
 use crate::pace::Pace;
-use crate::part::{Budget, Finding, Outcome};
+use crate::part::{Budget, Finding, Verdict};
 use crate::random::Random;
-use crate::reduce::smallest;
-use model::{Call, Place};
+use model::{Call, Given, Place};
 use std::collections::BTreeSet;
 
 /// A desk that has not come to rest after so many rounds is a difference.
@@ -24,7 +23,7 @@ struct Sums {
     rests: u64,
 }
 
-pub fn run(library: &dyn Library, budget: Budget) -> Outcome {
+pub fn run(library: &dyn Library, budget: Budget) -> Verdict {
     let mut sums = Sums::default();
     for seed in budget.seeds() {
         // One seed after another goes through every number of processes.
@@ -53,34 +52,6 @@ pub fn run(library: &dyn Library, budget: Budget) -> Outcome {
         sums.collections,
         sums.rests
     ))
-}
-
-/// The complaint, with the shortest list of calls that still brings a complaint.
-pub fn told(library: &dyn Library, n: usize, calls: &[Call], text: &str) -> String {
-    if replay(library, n, calls).is_ok() {
-        return format!("{text}\n(the same calls once more bring no difference)");
-    }
-    let short = smallest(calls, |some| replay(library, n, some).is_err());
-    let again = replay(library, n, &short).err();
-    let mut script = format!("n {n}\n");
-    for call in &short {
-        script.push_str(&line(call));
-        script.push('\n');
-    }
-    let count = calls.len();
-    let again = again.unwrap_or_default();
-    format!(
-        "{text}\nafter {count} calls; these {} give: {again}\n{script}",
-        short.len()
-    )
-}
-
-fn replay(library: &dyn Library, n: usize, calls: &[Call]) -> Result<(), String> {
-    let mut follow = Follow::new(library, n)?;
-    for call in calls {
-        let _refused_or_not = follow.call(library, call)?;
-    }
-    Ok(())
 }
 
 struct Run<'a> {
@@ -166,7 +137,7 @@ mod tests {
     use model::Message;
     use std::time::Duration;
 
-    fn one_run(library: &dyn Library, seed: u64) -> Outcome {
+    fn one_run(library: &dyn Library, seed: u64) -> Verdict {
         let time = Duration::ZERO;
         run(library, Budget { seed, time })
     }

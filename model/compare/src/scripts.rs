@@ -1,6 +1,6 @@
 //! Scripts, good and spoiled: the program's output against the model's.
 
-use crate::part::{Budget, Finding, Outcome};
+use crate::part::{Budget, Finding, Verdict};
 use crate::program::{Program, WHOLE};
 use crate::random::Random;
 use crate::reduce::smallest;
@@ -50,9 +50,8 @@ impl Sums {
     }
 }
 
-pub fn run(program: &Program, budget: Budget) -> Outcome {
+pub fn run(program: &Program, budget: Budget) -> Verdict {
     let mut sums = Sums::default();
-    let found = |seed, text: String| Finding::new(seed, text);
     for seed in budget.seeds() {
         let mut random = Random::new(seed);
         let mut batch = Vec::new();
@@ -60,7 +59,7 @@ pub fn run(program: &Program, budget: Budget) -> Outcome {
             batch.extend(one(&mut random));
             sums.scripts += 1;
         }
-        same(program, &batch, WHOLE, &mut sums).map_err(|text| found(seed, text))?;
+        same(program, &batch, WHOLE, &mut sums).map_err(|text| Finding::new(seed, text))?;
         // Whole inputs of their own: the first line, and the end of the input.
         for _ in 0..8 {
             let input = alone(&mut random);
@@ -69,7 +68,7 @@ pub fn run(program: &Program, budget: Budget) -> Outcome {
                 false => WHOLE,
             };
             sums.scripts += 1;
-            same(program, &input, piece, &mut sums).map_err(|text| found(seed, text))?;
+            same(program, &input, piece, &mut sums).map_err(|text| Finding::new(seed, text))?;
         }
     }
     match sums.missed().as_slice() {
@@ -77,10 +76,11 @@ pub fn run(program: &Program, budget: Budget) -> Outcome {
             "scripts: {} scripts in {} runs of the program, {} lines, {} bytes, every kind of output line",
             sums.scripts, sums.inputs, sums.lines, sums.bytes
         )),
-        missed => Err(found(budget.seed, format!("never printed: {}", missed.join(", ")))),
+        missed => Err(Finding::new(budget.seed, format!("never printed: {}", missed.join(", ")))),
     }
 }
 
+/// A script of a batch, now and then spoiled; its last line is ended.
 fn one(random: &mut Random) -> Vec<u8> {
     let mut script = script(random);
     if random.one_in(3) {

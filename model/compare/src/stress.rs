@@ -3,14 +3,13 @@
 //! against model and book, and every collected message against what was sent.
 
 use crate::draw;
-use crate::follow::Follow;
-use crate::ledger;
-use crate::library::{Given, Library};
-use crate::part::{Budget, Finding, Outcome};
+use crate::follow::{told, Follow};
+use crate::ledger::{self, History};
+use crate::library::{fresh, Library};
+use crate::part::{Budget, Finding, Verdict};
 use crate::random::Random;
-use crate::reached::told;
 use crate::wire::Table;
-use model::{Action, Call, Guard, Message};
+use model::{Action, Call, Given, Guard, Message};
 use std::sync::atomic::{AtomicBool, Ordering};
 use std::sync::{Mutex, MutexGuard, TryLockError};
 use std::thread;
@@ -18,8 +17,6 @@ use std::time::{Duration, Instant};
 
 /// How long the threads run before a history is checked.
 const ROUND: Duration = Duration::from_millis(400);
-
-pub type History = Vec<(Call, Result<Given, u8>)>;
 
 struct Shared {
     table: Table,
@@ -29,14 +26,14 @@ struct Shared {
     last: usize,
 }
 
-/// What the two threads have in common.
-struct MeetingPoint {
+/// The lock that a thread holds for each of its calls.
+struct Lock {
     shared: Mutex<Shared>,
     /// Which thread waits for the lock, or is about to.
     waiting: [AtomicBool; 2],
 }
 
-impl MeetingPoint {
+impl Lock {
     /// Waits for the lock without sleeping, so that the threads take turns
     /// often. A poisoned lock still has the history that shows why.
     fn enter(&self, thread: usize) -> MutexGuard<'_, Shared> {
@@ -75,7 +72,7 @@ impl Shared {
     }
 }
 
-pub fn run(library: &dyn Library, budget: Budget) -> Outcome {
+pub fn run(library: &dyn Library, budget: Budget) -> Verdict {
     let (mut calls, mut switches, mut messages) = (0, 0, 0);
     for seed in budget.seeds() {
         let n = [2, 3, 4, 8, 32][(seed % 5) as usize];
@@ -100,12 +97,9 @@ pub fn run(library: &dyn Library, budget: Budget) -> Outcome {
 
 /// Two threads for a while.
 fn round(library: &dyn Library, n: usize, seed: u64) -> Result<Shared, String> {
-    let table = library
-        .create(n as u8)
-        .map_err(|number| format!("a table of {n} is refused by {number}"))?;
-    let meeting_point = MeetingPoint {
+    let lock = Lock {
         shared: Mutex::new(Shared {
-            table,
+            table: fresh(library, n)?,
             history: Vec::new(),
             switches: 0,
             last: 0,
@@ -116,12 +110,11 @@ fn round(library: &dyn Library, n: usize, seed: u64) -> Result<Shared, String> {
     thread::scope(|scope| {
         for thread in 0..2 {
             let mut half = Half::new(thread, n, seed);
-            let meeting_point = &meeting_point;
-            scope.spawn(move || half.drive(library, meeting_point, end));
+            let lock = &lock;
+            scope.spawn(move || half.drive(library, lock, end));
         }
     });
-    meeting_point
-        .shared
+    lock.shared
         .into_inner()
         .map_err(|_| "a thread ended in the middle of a call".to_string())
 }
@@ -147,12 +140,10 @@ impl Half {
         }
     }
 
-    fn drive(&mut self, library: &dyn Library, meeting_point: &MeetingPoint, end: Instant) {
+    fn drive(&mut self, library: &dyn Library, lock: &Lock, end: Instant) {
         while Instant::now() < end {
             let (party, call) = self.next_call();
-            let answer = meeting_point
-                .enter(self.thread)
-                .call(library, call, self.thread);
+            let answer = lock.enter(self.thread).call(library, call, self.thread);
             match answer {
                 Ok(Given::Ticket(_)) => self.letters[party] = 'E',
                 Ok(Given::Place(Some(place))) => self.letters[party] = place.letter,
@@ -160,7 +151,7 @@ impl Half {
                 _ => {}
             }
             if self.random.one_in(2) {
-                meeting_point.make_way(self.thread);
+                lock.make_way(self.thread);
             }
         }
     }

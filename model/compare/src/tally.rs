@@ -1,21 +1,29 @@
 //! How often each refusal, each rule and each odd case was hit.
 
 use crate::damage::{Point, POINTS};
-use crate::library::{Given, Reply};
-use model::{Answer, Call, Desk, Guard, Party, Place};
+use crate::library::Reply;
+use model::{Answer, Call, Desk, Given, Guard, Party, Place};
 use std::collections::BTreeMap;
 
 const REFUSALS: [u8; 10] = [1, 2, 3, 4, 5, 6, 7, 11, 12, 13];
 
-/// Odd cases that only damaged tables have.
+// Odd cases that only damaged tables have.
+const EQUAL_TICKETS: &str = "rule 6 with equal tickets";
+const DISABLED_OWN: &str = "rule 8 with a disabled own guard";
+const TWO_RECEIVING: &str = "rule 9 with two receiving guards";
+const TWO_SENDING: &str = "rule 9 with two sending guards";
+const OLD_SIGNAL: &str = "rule 9 over an old signal";
+const NAN_HANDED_OVER: &str = "rule 9 hands over a NaN";
+const STILL_ACCEPTING: &str = "rule 13 with wake count 0";
+
 const ODD: [&str; 7] = [
-    "rule 6 with equal tickets",
-    "rule 8 with a disabled own guard",
-    "rule 9 with two receiving guards",
-    "rule 9 with two sending guards",
-    "rule 9 over an old signal",
-    "rule 9 hands over a NaN",
-    "rule 13 with wake count 0",
+    EQUAL_TICKETS,
+    DISABLED_OWN,
+    TWO_RECEIVING,
+    TWO_SENDING,
+    OLD_SIGNAL,
+    NAN_HANDED_OVER,
+    STILL_ACCEPTING,
 ];
 
 pub struct Tally {
@@ -118,14 +126,14 @@ fn odd_case(desk: &Desk, party: usize, rule: u8) -> Option<&'static str> {
     match record.place {
         Place::Scanning(own) => {
             let partner = &desk.parties[record.guards[own].partner];
-            (rule == 6 && partner.ticket == record.ticket).then_some(ODD[0])
+            (rule == 6 && partner.ticket == record.ticket).then_some(EQUAL_TICKETS)
         }
-        Place::Trying(own) => (!record.guards[own].enabled).then_some(ODD[1]),
+        Place::Trying(own) => (!record.guards[own].enabled).then_some(DISABLED_OWN),
         Place::Committed { own, kept } => {
             let own = record.guards[own];
             odd_delivery(&own, &desk.parties[own.partner], kept)
         }
-        Place::Waiting => (rule == 13 && record.wake_count == 0).then_some(ODD[6]),
+        Place::Waiting => (rule == 13 && record.wake_count == 0).then_some(STILL_ACCEPTING),
         _ => None,
     }
 }
@@ -134,10 +142,10 @@ fn odd_delivery(own: &Guard, partner: &Party, kept: usize) -> Option<&'static st
     let kept = partner.posted[kept];
     let sender = if own.sends() { own } else { &kept };
     match (own.sends(), kept.sends()) {
-        _ if sender.message().holds_nan() => Some(ODD[5]),
-        (false, false) => Some(ODD[2]),
-        (true, true) => Some(ODD[3]),
-        _ if partner.signal.is_some() => Some(ODD[4]),
+        _ if sender.message().holds_nan() => Some(NAN_HANDED_OVER),
+        (false, false) => Some(TWO_RECEIVING),
+        (true, true) => Some(TWO_SENDING),
+        _ if partner.signal.is_some() => Some(OLD_SIGNAL),
         _ => None,
     }
 }

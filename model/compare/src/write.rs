@@ -1,7 +1,7 @@
 //! Random scripts: good sessions, odd lines, and long ones.
 
 use crate::draw;
-use crate::library::{in_model, line, Given};
+use crate::library::line;
 use crate::pace::Pace;
 use crate::random::Random;
 use model::{Call, Desk, Place};
@@ -73,7 +73,7 @@ fn session(random: &mut Random) -> Vec<u8> {
         let party = pace.party(random, &desk);
         let call = next_call(random, &desk, party, sociable);
         // Whether it is refused is for the two programs to say.
-        let _ = in_model(&mut desk, &call);
+        let _ = call.on(&mut desk);
         script.extend(line(&call).into_bytes());
         script.push(b'\n');
     }
@@ -91,10 +91,8 @@ fn next_call(random: &mut Random, desk: &Desk, party: usize, sociable: bool) -> 
         }
         Place::Idle => draw::offer(random, party, desk.n),
         Place::Met(_) => Call::Collect { party },
-        _ => match in_model(&mut desk.clone(), &Call::Movers) {
-            Ok(Given::Set(0)) => draw::call(random, desk.n),
-            _ => Call::Step { party },
-        },
+        _ if desk.at_rest() => draw::call(random, desk.n),
+        _ => Call::Step { party },
     }
 }
 

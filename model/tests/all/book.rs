@@ -21,7 +21,7 @@ fn collect(book: &mut Book, party: usize) -> Result<Entry, Stuck> {
 
 /// Party 3 sends to 5 with its guard 1; party 5 receives with its guard 2.
 fn opened() -> Book {
-    let mut book = Book::new();
+    let mut book = Book::default();
     let sender = [receive(4), send(5, NINE)];
     let receiver = [disabled(receive(3)), send(3, NINE), receive(3), receive(3)];
     assert_eq!(offer(&mut book, 3, &sender), Ok(Entry::Opened(Ticket(0))));

@@ -1,4 +1,4 @@
-//! The document's list of edges to try, and its list of shortcuts.
+//! Document 01's list of edges to try, and its list of shortcuts.
 
 use crate::tools::{check_script, disabled, fresh, receive, send, steps};
 use model::{Desk, Guard, Message, Outcome, Place, Refusal, Ticket};

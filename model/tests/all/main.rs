@@ -1,5 +1,5 @@
-//! All tests of the model in one program. Expected values come from the scope
-//! document or from the reasoning written beside them.
+//! All tests of the model in one program. Expected values come from document 01
+//! or from the reasoning written beside them.
 
 mod book;
 mod by_value;

@@ -1,7 +1,9 @@
 //! Many random lists of calls, each compared with the book along the run.
 
 use crate::tools::{fresh, Xorshift};
-use model::{Action, Answer, Book, Call, Desk, Entry, Guard, Message, Place, Refusal, Ticket};
+use model::{
+    Action, Answer, Book, Call, Desk, Entry, Given, Guard, Message, Place, Refusal, Ticket,
+};
 use std::collections::BTreeSet;
 
 /// A desk with its book, and what the run has seen so far.
@@ -13,28 +15,11 @@ struct Run {
     collections: usize,
 }
 
-/// What a call gave.
-enum Given {
-    Ticket(Ticket),
-    Step(Option<Answer>),
-    Outcome(model::Outcome),
-    Movers,
-}
-
-fn make(desk: &mut Desk, call: &Call) -> Result<Given, Refusal> {
-    match call {
-        Call::Offer { party, guards } => desk.offer(*party, guards).map(Given::Ticket),
-        Call::Step { party } => desk.step(*party).map(Given::Step),
-        Call::Collect { party } => desk.collect(*party).map(Given::Outcome),
-        Call::Movers => desk.movers().map(|_| Given::Movers),
-    }
-}
-
 impl Run {
     fn new(n: usize) -> Run {
         Run {
             desk: fresh(n),
-            book: Book::new(),
+            book: Book::default(),
             met_tickets: BTreeSet::new(),
             rests: 0,
             collections: 0,
@@ -44,9 +29,9 @@ impl Run {
     /// Makes one call on the desk, feeds the book and compares the two.
     fn call(&mut self, call: &Call) {
         let before = self.desk.clone();
-        let given = make(&mut self.desk, call);
+        let given = call.on(&mut self.desk);
         let answer = match given {
-            Ok(Given::Step(answer)) => answer,
+            Ok(Given::Place(answer)) => answer,
             _ => None,
         };
         let entry = match self.book.feed(call, given.is_err(), answer) {
@@ -72,11 +57,11 @@ impl Run {
                 self.collections += 1;
                 assert_eq!(entry, Entry::Given(outcome));
             }
-            Given::Step(answer) => {
+            Given::Place(answer) => {
                 assert_eq!(answer.is_none(), self.desk == *before);
                 self.note_meeting(answer, entry);
             }
-            Given::Movers => assert_eq!(self.desk, *before),
+            Given::Set(_) => assert_eq!(self.desk, *before),
         }
     }
 

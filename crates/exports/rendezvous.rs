@@ -1,0 +1,229 @@
+//! The proved library for Rust, as rendezvous.h is for C: the calls on a process table and the
+//! script program, on lent bytes. A program takes this file as `mod rendezvous;` and links
+//! libexports.a; nothing here needs more than `core`. Each function passes its arguments on to the
+//! library's, which is proved for all of them; what it gives is defined in crates/wire/specs and
+//! crates/exports/specs.
+//!
+//! docs/BYTES.md has the forms of a table, a guard, an answer and a session.
+//!
+//! `out` takes the table that a call hands back and `answer` the answer, each at its front. A
+//! buffer that is too short stays as it is, and the call returns false.
+
+// A program calls only what it needs.
+#![allow(dead_code)]
+
+pub const TABLE: usize = 7109;
+pub const ANSWER: usize = 16;
+pub const GUARD: usize = 12;
+pub const SESSION: usize = 7312;
+/// No line of a script prints more bytes.
+pub const LINE: usize = 64;
+
+// SAFETY, for every call below: the library reads and writes nothing but the slices that it is
+// lent, whatever their bytes and lengths, and a slice lent as `&mut` overlaps no other.
+
+/// A fresh table of `n` processes.
+#[must_use]
+pub fn create(n: u8, out: &mut [u8], answer: &mut [u8]) -> bool {
+    unsafe {
+        rendezvous_create(
+            n,
+            out.as_mut_ptr(),
+            out.len(),
+            answer.as_mut_ptr(),
+            answer.len(),
+        )
+    }
+}
+
+/// An offer by process `p`; `guards` has `GUARD` bytes for each guard, of any number of them.
+#[must_use]
+pub fn offer(table: &[u8], p: u8, guards: &[u8], out: &mut [u8], answer: &mut [u8]) -> bool {
+    unsafe {
+        rendezvous_offer(
+            table.as_ptr(),
+            table.len(),
+            p,
+            guards.as_ptr(),
+            guards.len(),
+            out.as_mut_ptr(),
+            out.len(),
+            answer.as_mut_ptr(),
+            answer.len(),
+        )
+    }
+}
+
+/// A step of process `p`.
+#[must_use]
+pub fn step(table: &[u8], p: u8, out: &mut [u8], answer: &mut [u8]) -> bool {
+    unsafe {
+        rendezvous_step(
+            table.as_ptr(),
+            table.len(),
+            p,
+            out.as_mut_ptr(),
+            out.len(),
+            answer.as_mut_ptr(),
+            answer.len(),
+        )
+    }
+}
+
+/// A collection from process `p`.
+#[must_use]
+pub fn collect(table: &[u8], p: u8, out: &mut [u8], answer: &mut [u8]) -> bool {
+    unsafe {
+        rendezvous_collect(
+            table.as_ptr(),
+            table.len(),
+            p,
+            out.as_mut_ptr(),
+            out.len(),
+            answer.as_mut_ptr(),
+            answer.len(),
+        )
+    }
+}
+
+/// The set of processes that a step would change.
+#[must_use]
+pub fn runnable(table: &[u8], out: &mut [u8], answer: &mut [u8]) -> bool {
+    unsafe {
+        rendezvous_runnable(
+            table.as_ptr(),
+            table.len(),
+            out.as_mut_ptr(),
+            out.len(),
+            answer.as_mut_ptr(),
+            answer.len(),
+        )
+    }
+}
+
+/// A session of the script program before its first byte, to the front of `state`.
+#[must_use]
+pub fn script_start(state: &mut [u8]) -> bool {
+    unsafe { rendezvous_script_start(state.as_mut_ptr(), state.len()) }
+}
+
+/// Feeds a piece of the input to a session. As many bytes of the piece are taken as `out` has room
+/// for if each of them ends a line: the least of `piece.len()` and `out.len() / LINE`; feed the
+/// rest next. What they print goes to the front of `out`, and `after` takes the session after
+/// them. Gives how many bytes were taken and how many printed; none if `after` is too short.
+#[must_use]
+pub fn script_feed(
+    state: &[u8],
+    piece: &[u8],
+    after: &mut [u8],
+    out: &mut [u8],
+) -> Option<(usize, usize)> {
+    let (mut taken, mut filled) = (0, 0);
+    let kept = unsafe {
+        rendezvous_script_feed(
+            state.as_ptr(),
+            state.len(),
+            piece.as_ptr(),
+            piece.len(),
+            after.as_mut_ptr(),
+            after.len(),
+            out.as_mut_ptr(),
+            out.len(),
+            &mut taken,
+            &mut filled,
+        )
+    };
+    kept.then_some((taken, filled))
+}
+
+/// What the end of the input prints, to the front of `out`, and how many bytes that is. An `out`
+/// of less than `LINE` bytes stays as it is, and the call returns 0.
+#[must_use]
+pub fn script_finish(state: &[u8], out: &mut [u8]) -> usize {
+    unsafe { rendezvous_script_finish(state.as_ptr(), state.len(), out.as_mut_ptr(), out.len()) }
+}
+
+/// An f32, handed back by way of a message in a guard in a record in a table: for tests of its
+/// bits.
+pub fn reading_through(x: f32) -> f32 {
+    unsafe { rendezvous_reading_through(x) }
+}
+
+/// The same by way of a limit: low.
+pub fn low_through(low: f32, high: f32) -> f32 {
+    unsafe { rendezvous_low_through(low, high) }
+}
+
+/// The same by way of a limit: high.
+pub fn high_through(low: f32, high: f32) -> f32 {
+    unsafe { rendezvous_high_through(low, high) }
+}
+
+unsafe extern "C" {
+    fn rendezvous_create(
+        n: u8,
+        out: *mut u8,
+        out_length: usize,
+        answer: *mut u8,
+        answer_length: usize,
+    ) -> bool;
+    fn rendezvous_offer(
+        table: *const u8,
+        table_length: usize,
+        p: u8,
+        guards: *const u8,
+        guards_length: usize,
+        out: *mut u8,
+        out_length: usize,
+        answer: *mut u8,
+        answer_length: usize,
+    ) -> bool;
+    fn rendezvous_step(
+        table: *const u8,
+        table_length: usize,
+        p: u8,
+        out: *mut u8,
+        out_length: usize,
+        answer: *mut u8,
+        answer_length: usize,
+    ) -> bool;
+    fn rendezvous_collect(
+        table: *const u8,
+        table_length: usize,
+        p: u8,
+        out: *mut u8,
+        out_length: usize,
+        answer: *mut u8,
+        answer_length: usize,
+    ) -> bool;
+    fn rendezvous_runnable(
+        table: *const u8,
+        table_length: usize,
+        out: *mut u8,
+        out_length: usize,
+        answer: *mut u8,
+        answer_length: usize,
+    ) -> bool;
+    fn rendezvous_script_start(state: *mut u8, state_length: usize) -> bool;
+    fn rendezvous_script_feed(
+        state: *const u8,
+        state_length: usize,
+        piece: *const u8,
+        piece_length: usize,
+        after: *mut u8,
+        after_length: usize,
+        out: *mut u8,
+        out_length: usize,
+        taken: *mut usize,
+        filled: *mut usize,
+    ) -> bool;
+    fn rendezvous_script_finish(
+        state: *const u8,
+        state_length: usize,
+        out: *mut u8,
+        out_length: usize,
+    ) -> usize;
+    fn rendezvous_reading_through(x: f32) -> f32;
+    fn rendezvous_low_through(low: f32, high: f32) -> f32;
+    fn rendezvous_high_through(low: f32, high: f32) -> f32;
+}

@@ -1,0 +1,112 @@
+//! Any bytes in the form in which the library writes them.
+
+use super::reading::{guard, place, signal, Reader};
+use super::table::{Table, RECORDS, SLOTS, TABLE, TABLE_HEAD};
+use super::writing::{put_guard, put_place, put_signal};
+use model::{Action, Guard, IndexedMessage, Message, Place};
+
+/// The same table as the library writes it: known tags, zeros where nothing is
+/// said, and one NaN. Slots past a list's end are kept.
+pub fn normal(table: &Table) -> Table {
+    let mut input = Reader(table.bytes());
+    let mut out = Vec::with_capacity(TABLE);
+    out.extend((0..TABLE_HEAD).map(|_| input.byte()));
+    for _ in 0..RECORDS {
+        put_place(&mut out, one_nan_at(place(&mut input)));
+        put_signal(&mut out, signal(&mut input).map(one_nan_in));
+        out.extend((0..4).map(|_| input.byte()));
+        out.push(u8::from(input.flag()));
+        out.extend([input.byte(), input.byte()]);
+        for _ in 0..2 * SLOTS {
+            put_guard(&mut out, &one_nan_of(guard(&mut input)));
+        }
+    }
+    Table::of(out)
+}
+
+/// The message with its NaNs written in the one way that the library has.
+pub fn one_nan(message: Message) -> Message {
+    let one = |value: f32| match value.is_nan() {
+        true => f32::from_bits(0x7fc0_0000),
+        false => value,
+    };
+    match message {
+        Message::Nothing | Message::Whole(_) => message,
+        Message::Reading(value) => Message::Reading(one(value)),
+        Message::Limit { low, high } => Message::Limit {
+            low: one(low),
+            high: one(high),
+        },
+    }
+}
+
+fn one_nan_in(indexed: IndexedMessage) -> IndexedMessage {
+    IndexedMessage {
+        index: indexed.index,
+        message: one_nan(indexed.message),
+    }
+}
+
+fn one_nan_at(place: Place) -> Place {
+    match place {
+        Place::Met(outcome) => Place::Met(one_nan_in(outcome)),
+        other => other,
+    }
+}
+
+fn one_nan_of(guard: Guard) -> Guard {
+    let action = match guard.action {
+        Action::Receive => Action::Receive,
+        Action::Send(message) => Action::Send(one_nan(message)),
+    };
+    Guard { action, ..guard }
+}
+
+#[cfg(test)]
+mod tests {
+    use super::super::{decode, encode};
+    use super::*;
+    use model::Desk;
+
+    #[test]
+    fn what_is_written_is_normal_but_for_its_nans() {
+        let mut desk = Desk::new(2).expect("two is a good number");
+        desk.parties[0].place = Place::Met(IndexedMessage {
+            index: 0,
+            message: Message::Reading(f32::from_bits(0xff80_0001)),
+        });
+        let normal_table = normal(&encode(&desk));
+        desk.parties[0].place = Place::Met(IndexedMessage {
+            index: 0,
+            message: Message::Reading(f32::from_bits(0x7fc0_0000)),
+        });
+        assert_eq!(normal_table, encode(&desk));
+        assert_eq!(normal(&normal_table), normal_table);
+    }
+
+    #[test]
+    fn an_unknown_tag_counts_as_the_last() {
+        let mut table = Table::zero();
+        table.bytes_mut()[5] = 11;
+        table.bytes_mut()[8] = 200;
+        let record = &decode(&table).parties[0];
+        let nothing_but_zeros = Message::Limit {
+            low: 0.0,
+            high: 0.0,
+        };
+        let outcome = IndexedMessage {
+            index: 0,
+            message: nothing_but_zeros,
+        };
+        assert_eq!(record.place, Place::Met(outcome));
+        assert_eq!(normal(&table).bytes()[5..9], [10, 0, 0, 3]);
+    }
+
+    #[test]
+    fn slots_past_a_lists_end_are_kept_but_not_read() {
+        let mut table = Table::zero();
+        table.bytes_mut()[5 + 30] = 1;
+        assert!(decode(&table).parties[0].guards.is_empty());
+        assert_eq!(normal(&table), table);
+    }
+}

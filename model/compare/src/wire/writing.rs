@@ -1,0 +1,129 @@
+//! A desk as bytes.
+
+use super::table::{Table, BLANK, MESSAGE, RECORDS, SLOTS, TABLE};
+use model::{Desk, Guard, IndexedMessage, Message, Party, Place};
+
+/// Writes a desk; a record that it does not have is a fresh one.
+pub fn encode(desk: &Desk) -> Table {
+    let mut out = Vec::with_capacity(TABLE);
+    out.push(desk.n as u8);
+    out.extend(desk.next_ticket.0.to_le_bytes());
+    let fresh = Party::fresh();
+    for number in 0..RECORDS {
+        put_record(&mut out, desk.parties.get(number).unwrap_or(&fresh));
+    }
+    Table::of(out)
+}
+
+fn put_record(out: &mut Vec<u8>, record: &Party) {
+    put_place(out, record.place);
+    put_signal(out, record.signal);
+    out.extend(record.ticket.0.to_le_bytes());
+    out.push(u8::from(record.wake_count == 0));
+    out.push(record.guards.len() as u8);
+    out.push(record.posted.len() as u8);
+    put_slots(out, &record.guards);
+    put_slots(out, &record.posted);
+}
+
+pub fn put_place(out: &mut Vec<u8>, place: Place) {
+    let (tag, index, kept, message) = match place {
+        Place::Idle => (0, 0, 0, Message::Nothing),
+        Place::Entering => (1, 0, 0, Message::Nothing),
+        Place::Scanning(own) => (2, own, 0, Message::Nothing),
+        Place::Trying(own) => (3, own, 0, Message::Nothing),
+        Place::Committed { own, kept } => (4, own, kept, Message::Nothing),
+        Place::Posting => (5, 0, 0, Message::Nothing),
+        Place::Opening => (6, 0, 0, Message::Nothing),
+        Place::Showing => (7, 0, 0, Message::Nothing),
+        Place::Asleep => (8, 0, 0, Message::Nothing),
+        Place::Waiting => (9, 0, 0, Message::Nothing),
+        Place::Met(outcome) => (10, outcome.index, 0, outcome.message),
+    };
+    out.extend([tag, index as u8, kept as u8]);
+    put_message(out, message);
+}
+
+pub fn put_signal(out: &mut Vec<u8>, signal: Option<IndexedMessage>) {
+    match signal {
+        None => out.extend([0; 2 + MESSAGE]),
+        Some(IndexedMessage { index, message }) => {
+            out.extend([1, index as u8]);
+            put_message(out, message);
+        }
+    }
+}
+
+fn put_slots(out: &mut Vec<u8>, list: &[Guard]) {
+    for slot in 0..SLOTS {
+        put_guard(out, list.get(slot).unwrap_or(&BLANK));
+    }
+}
+
+pub fn put_guard(out: &mut Vec<u8>, guard: &Guard) {
+    let sends = u8::from(guard.sends());
+    out.extend([u8::from(guard.enabled), guard.partner as u8, sends]);
+    put_message(out, guard.message());
+}
+
+pub fn put_message(out: &mut Vec<u8>, message: Message) {
+    let (tag, first, second) = match message {
+        Message::Nothing => (0, 0, 0),
+        Message::Whole(number) => (1, number as u32, 0),
+        Message::Reading(value) => (2, value.to_bits(), 0),
+        Message::Limit { low, high } => (3, low.to_bits(), high.to_bits()),
+    };
+    out.push(tag);
+    out.extend(first.to_le_bytes());
+    out.extend(second.to_le_bytes());
+}
+
+#[cfg(test)]
+mod tests {
+    use super::super::table::{GUARD, RECORD};
+    use super::*;
+    use model::{Action, Ticket};
+
+    #[test]
+    fn a_fresh_table_is_n_and_zeros() {
+        let table = encode(&Desk::new(7).expect("seven is a good number"));
+        assert_eq!(table.bytes().len(), 7109);
+        assert_eq!(table.bytes()[0], 7);
+        assert!(table.bytes()[1..].iter().all(|&byte| byte == 0));
+    }
+
+    #[test]
+    fn the_fields_stand_where_they_should() {
+        let mut desk = Desk::new(2).expect("two is a good number");
+        desk.next_ticket = Ticket(0x0403_0201);
+        let limit = Message::Limit {
+            low: 1.0,
+            high: -2.0,
+        };
+        let record = &mut desk.parties[1];
+        record.place = Place::Committed { own: 3, kept: 4 };
+        record.signal = Some(IndexedMessage {
+            index: 5,
+            message: limit,
+        });
+        record.ticket = Ticket(6);
+        record.wake_count = 0;
+        record.posted = vec![Guard {
+            enabled: true,
+            partner: 9,
+            action: Action::Send(Message::Whole(-2)),
+        }];
+        let table = encode(&desk);
+        let bytes = &table.bytes()[5 + RECORD..];
+        assert_eq!(table.bytes()[..5], [2, 1, 2, 3, 4]);
+        assert_eq!(bytes[..3], [4, 3, 4]);
+        assert_eq!(bytes[12..23], [1, 5, 3, 0, 0, 128, 63, 0, 0, 0, 192]);
+        assert_eq!(bytes[23..30], [6, 0, 0, 0, 1, 0, 1]);
+        let posted = 30 + SLOTS * GUARD;
+        assert_eq!(bytes[posted..posted + 4], [1, 9, 1, 1]);
+        assert_eq!(
+            bytes[posted + 4..posted + 12],
+            [254, 255, 255, 255, 0, 0, 0, 0]
+        );
+    }
+}
