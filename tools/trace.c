@@ -1,0 +1,338 @@
+/* ./run --trace: tells, for each rendezvous of the script on standard input, which way its message went, station by station.
+   The script goes to the proved library a line at a time. What a station shows is read out of the table's own bytes, as they stood
+   just before and just after that line, and at a collection out of what the line printed; the forms are those of rendezvous.h.
+   Each station is held against the guards as the script wrote them; between stations, no line may change what a record holds of them. */
+#include "rendezvous.h"
+#include <stdarg.h>
+#include <stdio.h>
+#include <stdlib.h>
+#include <string.h>
+
+/* Where a record has what. */
+enum { PLACE = 0, INDEX = 1, KEPT = 2, OUTCOME = 3, SIGNAL = 12, SIGNAL_MESSAGE = 14, TICKET = 23, ACCEPTING = 27, OWN = 30, POSTED = 126 };
+enum { PROCESSES = 32, GUARDS = 8, FIRST_RECORD = RENDEZVOUS_SESSION - RENDEZVOUS_TABLE + 5, RECORD = 222 };
+/* A line that is taken has at most 200 bytes, so it is one piece. */
+enum { PIECE = 256 };
+/* Both offer; the waiter posts, opens, waits; one commits and signals, one absorbs; both collect. */
+enum { STATIONS = 10 };
+/* So many rendezvous wait for an older one to be told. At most PROCESSES of them have a collection due. */
+enum { STORIES = 256 };
+
+/* A message or guard as a script writes it; the longest is -31!l and sixteen digits. */
+typedef struct {
+    char text[32];
+} Text;
+
+typedef struct {
+    unsigned long line;
+    char words[160];
+    Text wanted; /* where the bits differ: what they should be */
+} Station;
+
+typedef struct {
+    unsigned long number;
+    unsigned from, to, due;
+    Text message;
+    size_t count;
+    Station stations[STATIONS];
+} Story;
+
+/* What a process does before it is known which of its guards will meet: its record just after each. */
+enum { OFFERS, POSTS, OPENS, WAITS, ALONE };
+typedef struct {
+    unsigned long line;
+    uint8_t record[RECORD];
+} Seen;
+
+typedef struct {
+    char offer[PIECE + 1]; /* the script's line */
+    Seen seen[ALONE];
+    unsigned long story; /* the number of its rendezvous, until it collects; 0 is none */
+    unsigned guard;      /* its guard in that */
+} Process;
+
+static uint8_t before[RENDEZVOUS_SESSION], after[RENDEZVOUS_SESSION];
+static char piece[PIECE + 1], printed[PIECE * RENDEZVOUS_LINE + 1];
+static unsigned long line;
+static Process processes[PROCESSES];
+static Story stories[STORIES];
+static size_t held;
+static unsigned long rendezvous;
+static bool differs;
+
+static _Noreturn void fail(const char *what) {
+    fflush(stdout);
+    fprintf(stderr, "trace: %s (after line %lu)\n", what, line);
+    exit(2);
+}
+
+static const uint8_t *record(const uint8_t *session, unsigned p) { return session + FIRST_RECORD + RECORD * p; }
+
+static uint32_t word(const uint8_t *bytes) {
+    return bytes[0] | (uint32_t)bytes[1] << 8 | (uint32_t)bytes[2] << 16 | (uint32_t)bytes[3] << 24;
+}
+
+static Text message_in(const uint8_t *bytes) {
+    Text m = {"0"};
+    if (bytes[0] == 1) snprintf(m.text, sizeof m.text, "w%ld", (long)(int32_t)word(bytes + 1));
+    if (bytes[0] == 2) snprintf(m.text, sizeof m.text, "r%08lx", (unsigned long)word(bytes + 1));
+    if (bytes[0] == 3) snprintf(m.text, sizeof m.text, "l%08lx%08lx", (unsigned long)word(bytes + 1), (unsigned long)word(bytes + 5));
+    if (bytes[0] > 3) snprintf(m.text, sizeof m.text, "kind %u", bytes[0]);
+    return m;
+}
+
+/* Guard i of the own or the posted list of a record. */
+static Text guard_in(const uint8_t *process, unsigned list, unsigned i) {
+    const uint8_t *bytes = process + list + RENDEZVOUS_GUARD * i;
+    Text g;
+    snprintf(g.text, sizeof g.text, "%s%u%s%.20s", bytes[0] ? "" : "-", bytes[1], bytes[2] ? "!" : "?", bytes[2] ? message_in(bytes + 3).text : "");
+    return g;
+}
+
+static Text signal_in(const uint8_t *process) { return process[SIGNAL] ? message_in(process + SIGNAL_MESSAGE) : (Text){"no signal"}; }
+
+/* Guard i as the script's line of an offer, `o P G..`, writes it. */
+static Text guard_written(const char *offer, unsigned i) {
+    Text g = {""};
+    for (unsigned field = 0; field < i + 2 && offer; field++)
+        if ((offer = strchr(offer, ' '))) offer++;
+    if (!offer) fail("the table has a guard that the script has not");
+    snprintf(g.text, sizeof g.text, "%.*s", (int)strcspn(offer, " \n"), offer);
+    return g;
+}
+
+static Text message_written(Text guard) {
+    const char *mark = strchr(guard.text, '!');
+    Text m = {"0"};
+    if (mark) memcpy(m.text, mark + 1, strlen(mark));
+    return m;
+}
+
+static Text named(Text message) { return strcmp(message.text, "0") ? message : (Text){"nothing (0)"}; }
+
+/* Adds a station in the order of lines. */
+__attribute__((format(printf, 3, 4))) static Station *add(Story *story, unsigned long at, const char *words, ...) {
+    va_list list;
+    size_t k = story->count;
+    if (story->count == STATIONS) fail("a rendezvous has more stations than the rules give it");
+    for (; k > 0 && story->stations[k - 1].line > at; k--) story->stations[k] = story->stations[k - 1];
+    story->count++;
+    story->stations[k].line = at;
+    story->stations[k].wanted.text[0] = 0;
+    va_start(list, words);
+    vsnprintf(story->stations[k].words, sizeof story->stations[k].words, words, list);
+    va_end(list);
+    return &story->stations[k];
+}
+
+static void want(Station *station, Text found, Text wanted) {
+    if (strcmp(found.text, wanted.text) != 0) station->wanted = wanted;
+}
+
+/* The message that is due to process p: only who receives has any. */
+static Text due(const Story *story, unsigned p) { return story->to == p ? story->message : (Text){"0"}; }
+
+/* Tells a rendezvous and forgets it. */
+static void tell(size_t s) {
+    const Story *story = &stories[s];
+    unsigned long first = 0;
+    printf("rendezvous %lu: %s from process %u to process %u\n", story->number, named(story->message).text, story->from, story->to);
+    for (size_t k = 0; k < story->count; k++) {
+        const Station *station = &story->stations[k];
+        const char *wanted = station->wanted.text;
+        printf("  line %-6lu %s%s%s\n", station->line, station->words, *wanted ? " <- not " : "", wanted);
+        if (*wanted && first == 0) first = station->line;
+    }
+    if (story->due > 0) printf("  (%s of the two has%s collected)\n", story->due == 1 ? "one" : "neither", story->due == 1 ? " not" : "");
+    if (first > 0)
+        printf("  not the same bits: line %lu is the first station that differs\n", first);
+    else
+        printf("  the same bits at every station\n");
+    differs = differs || first > 0;
+    held--;
+    memmove(&stories[s], &stories[s + 1], (held - s) * sizeof stories[0]);
+}
+
+/* A new rendezvous. If too many wait for an older one, the first whose collections are made is told before it. */
+static Story *begin(unsigned from, unsigned to, Text message) {
+    for (size_t s = 0; held == STORIES; s++)
+        if (stories[s].due == 0 || s + 1 == STORIES) tell(s);
+    stories[held] = (Story){.number = ++rendezvous, .from = from, .to = to, .due = 2, .message = message};
+    return &stories[held++];
+}
+
+static Story *story_of(unsigned p) {
+    for (size_t s = held; s > 0; s--)
+        if (stories[s - 1].number == processes[p].story) return &stories[s - 1];
+    fail("a process meets, and none has committed to it");
+}
+
+/* Adds what process p did alone, if it did. */
+static void add_seen(Story *story, unsigned p, unsigned what) {
+    const Seen *seen = &processes[p].seen[what];
+    unsigned i = processes[p].guard;
+    Text guard = guard_in(seen->record, what == OFFERS ? OWN : POSTED, i);
+    Station *station;
+    if (seen->line == 0) return;
+    if (what == OFFERS)
+        station = add(story, seen->line, "process %u offers %s as guard %u, ticket %lu", p, guard.text, i, (unsigned long)word(seen->record + TICKET));
+    else if (what == POSTS)
+        station = add(story, seen->line, "process %u posts its list, with %s as guard %u", p, guard.text, i);
+    else if (what == OPENS)
+        station = add(story, seen->line, "process %u sets its wake count to %d, with %s as posted guard %u", p, !seen->record[ACCEPTING], guard.text, i);
+    else
+        station = add(story, seen->line, "process %u waits, with %s as posted guard %u", p, guard.text, i);
+    want(station, guard, guard_written(processes[p].offer, i));
+}
+
+/* Process p did something alone: it is kept for the rendezvous to come. */
+static void see(unsigned p, unsigned what) {
+    Seen *seen = &processes[p].seen[what];
+    seen->line = line;
+    memcpy(seen->record, record(after, p), RECORD);
+}
+
+static void offers(unsigned p) {
+    memset(&processes[p], 0, sizeof processes[p]);
+    strcpy(processes[p].offer, piece);
+    see(p, OFFERS);
+}
+static void posts(unsigned p) { see(p, POSTS); }
+static void opens(unsigned p) { see(p, OPENS); }
+static void waits(unsigned p) { see(p, WAITS); }
+
+/* Process p is now in a rendezvous by its guard i. */
+static void join(Story *story, unsigned p, unsigned i) {
+    processes[p].story = story->number;
+    processes[p].guard = i;
+    for (unsigned what = OFFERS; what < ALONE; what++) add_seen(story, p, what);
+}
+
+static void commits(unsigned p) {
+    const uint8_t *own = record(after, p);
+    unsigned i = own[INDEX], j = own[KEPT];
+    if (i >= GUARDS || j >= GUARDS) fail("a commit names no guard");
+    unsigned q = own[OWN + RENDEZVOUS_GUARD * i + 1];
+    bool sends = own[OWN + RENDEZVOUS_GUARD * i + 2];
+    if (q >= PROCESSES) fail("a commit names no process");
+    const uint8_t *partner = record(after, q);
+    Text mine = guard_in(own, OWN, i), kept = guard_in(partner, POSTED, j);
+    Text wanted = guard_written(processes[p].offer, i), partners = guard_written(processes[q].offer, j);
+    Story *story = begin(sends ? p : q, sends ? q : p, message_written(sends ? wanted : partners));
+    join(story, q, j);
+    join(story, p, i);
+    Station *station = add(story, line, "process %u commits at its guard %u (%s) to posted guard %u of process %u (%s), whose wake count becomes %d", p, i,
+                           mine.text, j, q, kept.text, !partner[ACCEPTING]);
+    want(station, mine, wanted);
+    want(station, kept, partners);
+}
+
+static void signals(unsigned p) {
+    Story *story = story_of(p);
+    unsigned q = story->from == p ? story->to : story->from;
+    Text kept = message_in(record(after, p) + OUTCOME), signal = signal_in(record(after, q));
+    Station *station = story->from == p
+        ? add(story, line, "process %u signals process %u with %s, and keeps %s", p, q, named(signal).text, named(kept).text)
+        : add(story, line, "process %u takes %s from the posted list of process %u, and signals it with %s", p, named(kept).text, q, named(signal).text);
+    want(station, kept, due(story, p));
+    want(station, signal, due(story, q));
+}
+
+static void absorbs(unsigned p) {
+    Story *story = story_of(p);
+    Text signal = signal_in(record(before, p)), kept = message_in(record(after, p) + OUTCOME);
+    Station *station = add(story, line, "process %u absorbs the signal with %s, and keeps %s", p, named(signal).text, named(kept).text);
+    want(station, signal, due(story, p));
+    want(station, kept, due(story, p));
+}
+
+static void collects(unsigned p) {
+    Story *story = story_of(p);
+    unsigned i, q;
+    Text message;
+    if (sscanf(printed, "c %*u %u %u %31s", &i, &q, message.text) != 3) fail("a collection prints no message");
+    want(add(story, line, "process %u collects %s from its rendezvous with process %u, as its guard %u", p, named(message).text, q, i), message,
+         due(story, p));
+    story->due--;
+    processes[p].story = 0;
+    while (held > 0 && stories[0].due == 0) tell(0);
+}
+
+static void tell_all(void) {
+    while (held > 0) tell(0);
+}
+
+/* From which place to which each station moves its process. */
+static const struct {
+    char from, to;
+    void (*station)(unsigned p);
+} moves[] = {{'I', 'E', offers},  {'P', 'O', posts},   {'O', 'H', opens},   {'H', 'W', waits},
+             {'T', 'C', commits}, {'C', 'M', signals}, {'W', 'M', absorbs}, {'M', 'I', collects}};
+
+static char place(const uint8_t *session, unsigned p) {
+    uint8_t at = record(session, p)[PLACE];
+    if (at > 10) fail("a process is at no place");
+    return "IEATCPOHSWM"[at];
+}
+
+/* Lists change where their process offers or posts, an outcome where it moves, a signal where there was none or it moves. */
+static void see_stray(unsigned p, char from, char to) {
+    const uint8_t *old = record(before, p), *new = record(after, p);
+    bool writes = from != to && (to == 'E' || to == 'O');
+    bool lists = !writes && memcmp(old + OWN, new + OWN, RECORD - OWN) != 0;
+    bool outcome = from == to && memcmp(old + OUTCOME, new + OUTCOME, SIGNAL - OUTCOME) != 0;
+    bool signal = from == to && old[SIGNAL] && memcmp(old + SIGNAL, new + SIGNAL, TICKET - SIGNAL) != 0;
+    if (!lists && !outcome && !signal) return;
+    printf("line %lu changes the %s of process %u against the rules\n", line, lists ? "lists" : outcome ? "outcome" : "signal", p);
+    differs = true;
+}
+
+/* What the line did, by the tables before and after it. An accepted `n` ends every story. */
+static void look(void) {
+    line++;
+    if (printed[0] == 'n') {
+        tell_all();
+        memset(processes, 0, sizeof processes);
+        return;
+    }
+    for (unsigned p = 0; p < PROCESSES; p++) {
+        char from = place(before, p), to = place(after, p);
+        see_stray(p, from, to);
+        for (size_t k = 0; from != to && k < sizeof moves / sizeof moves[0]; k++)
+            if (from == moves[k].from && to == moves[k].to) moves[k].station(p);
+    }
+}
+
+/* Reads up to the end of a line, or as much of it as a piece has. */
+static size_t read_piece(void) {
+    size_t length = 0;
+    int byte;
+    while (length < PIECE && (byte = getchar()) != EOF)
+        if ((piece[length++] = (char)byte) == '\n') break;
+    piece[length] = 0;
+    return length;
+}
+
+static void feed(size_t length) {
+    size_t taken = 0, filled = 0;
+    memcpy(before, after, sizeof before);
+    if (!rendezvous_script_feed(before, sizeof before, (const uint8_t *)piece, length, after, sizeof after, (uint8_t *)printed, sizeof printed - 1, &taken,
+                                &filled) ||
+        taken != length || filled >= sizeof printed)
+        fail("the library does not take the next line");
+    printed[filled] = 0;
+}
+
+int main(void) {
+    size_t length;
+    if (!rendezvous_script_start(after, sizeof after)) fail("the library gives no session");
+    while ((length = read_piece()) > 0) {
+        feed(length);
+        if (piece[length - 1] == '\n') look();
+    }
+    if (ferror(stdin)) fail("standard input cannot be read");
+    tell_all();
+    if (rendezvous == 0) puts("no rendezvous");
+    if (fflush(stdout) != 0 || ferror(stdout)) fail("standard output cannot be written");
+    return differs;
+}
