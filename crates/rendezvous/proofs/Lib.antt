@@ -1,4 +1,5 @@
 pub mod Changes
+pub mod Done
 pub mod Forms
 pub mod Lengths
 pub mod Offers

@@ -11,6 +11,7 @@ use Rattle.alternative.specs.declared.Guard.{Guard}
 use Rattle.alternative.specs.declared.GuardList.{GuardList}
 use Rattle.alternative.specs.Guards.{mostGuards, anyGuard}
 use Rattle.alternative.specs.Exchange.{actionHoldsNan}
+use Rattle.process.specs.declared.{TransactionId.TransactionId, Place.Place}
 use Rattle.rendezvous.specs.declared.ProcessTable.{ProcessTable}
 use Rattle.rendezvous.specs.declared.Refusal.{Refusal}
 use Rattle.rendezvous.specs.declared.Refusal.the-variants.{NotWellFormed, NoSuchProcess, GuardCount, Partner, NotANumber, NoneEnabled, NotIdle, LastTransaction}
@@ -51,37 +52,46 @@ process-passed t p e =
     let b = passed (ltb p (t .n)) NoSuchProcess _ (a .1) in
     record { formed = a .0; below = ltb-true p (t .n) (b .0) }
 
-pub record Admitted (t : ProcessTable) (p : ℕ) (list : GuardList) : Type 0 where
-  pub formed : wellFormed t ≡ true
-  pub below : p < t .n
+-- what an offer has passed, of which this was read
+pub record Passed (form : Bool) (n p : ℕ) (list : GuardList) (place : Place) (next : TransactionId) : Type 0 where
+  pub formed : form ≡ true
+  pub below : p < n
   pub least : 1 ≤ list .count
   pub most : list .count ≤ mostGuards
-  pub partners : allGuards (partnerFits (t .n) p) (take (list .count) (list .guards)) ≡ true
+  pub partners : allGuards (partnerFits n p) (take (list .count) (list .guards)) ≡ true
   pub enabled : anyGuard (λ g. g .enabled) (take (list .count) (list .guards)) ≡ true
-  pub idle : isIdle (process t p .place) ≡ true
-  pub left : t .next .0 < lastTransaction
+  pub idle : isIdle place ≡ true
+  pub left : next .0 < lastTransaction
 
-pub offer-passed : (t : ProcessTable) (p : ℕ) (list : GuardList) → offerVerdict t p list ≡ Accepted → Admitted t p list
-unfolding offerVerdict listVerdict stateVerdict
-offer-passed t p list e =
-    let a = passed (wellFormed t) NotWellFormed _ e in
-    let b = passed (ltb p (t .n)) NoSuchProcess _ (a .1) in
+pub tests-passed : (formed : Bool) (n p : ℕ) (list : GuardList) (place : Place) (next : TransactionId) (verdict : Verdict)
+    → verdict ≡ require formed NotWellFormed (require (ltb p n) NoSuchProcess (listVerdict n p list (stateVerdict place next))) → verdict ≡ Accepted → Passed formed n p list place next
+unfolding listVerdict stateVerdict
+tests-passed formed n p list place next verdict asked e =
+    let a = passed formed NotWellFormed _ (sym asked ∙ e) in
+    let b = passed (ltb p n) NoSuchProcess _ (a .1) in
     let c = passed (leb 1 (list .count) && leb (list .count) mostGuards) GuardCount _ (b .1) in
-    let d = guards-passed (t .n) p (take (list .count) (list .guards)) _ (c .1) in
+    let d = guards-passed n p (take (list .count) (list .guards)) _ (c .1) in
     let f = passed (anyGuard (λ g. g .enabled) (take (list .count) (list .guards))) NoneEnabled _ (d .1) in
-    let g = passed (isIdle (process t p .place)) NotIdle _ (f .1) in
-    let h = passed (ltb (t .next .0) lastTransaction) LastTransaction _ (g .1) in
+    let g = passed (isIdle place) NotIdle _ (f .1) in
+    let h = passed (ltb (next .0) lastTransaction) LastTransaction _ (g .1) in
     let k = and-parts (leb 1 (list .count)) _ (c .0) in
     record {
       formed = a .0;
-      below = ltb-true p (t .n) (b .0);
+      below = ltb-true p n (b .0);
       least = leb-true 1 (list .count) (k .0);
       most = leb-true (list .count) mostGuards (k .1);
       partners = d .0;
       enabled = f .0;
       idle = g .0;
-      left = ltb-true (t .next .0) lastTransaction (h .0);
+      left = ltb-true (next .0) lastTransaction (h .0);
     }
+
+abbrev pub Admitted : ProcessTable → ℕ → GuardList → Type 0
+Admitted t p list = Passed (wellFormed t) (t .n) p list (process t p .place) (t .next)
+
+pub offer-passed : (t : ProcessTable) (p : ℕ) (list : GuardList) → offerVerdict t p list ≡ Accepted → Admitted t p list
+unfolding offerVerdict
+offer-passed t p list e = tests-passed (wellFormed t) (t .n) p list (process t p .place) (t .next) (offerVerdict t p list) refl e
 
 -- Tests in order: all hand on to the verdict that follows, or one stops there whatever follows.
 pub data Tests (F : Verdict → Verdict) : Type 0 where

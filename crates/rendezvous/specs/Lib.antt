@@ -3,4 +3,5 @@ pub mod Table
 pub mod WellFormed
 pub mod Refusals
 pub mod Calls
+pub mod Acts
 pub mod Numbers

@@ -1,14 +1,8 @@
 // The call that collects an outcome.
-use crate::Answer;
 use crate::ProcessTable;
-use crate::Refusal;
 use crate::Reply;
-use crate::Verdict;
+use crate::acts::collect_act;
 use crate::well_formed::count_fits;
-use crate::well_formed::process_verdict;
-use process::Place;
-use process::Signal;
-use process::guard_at;
 use process::posted_by;
 use process::process_fits;
 ghost use mathlib.Core.Path.{_≡_};
@@ -34,19 +28,13 @@ impl ProcessTable {
         }
         let i = (p % 32) as usize;
         let x = t.processes[i];
-        let place = x.place;
-        let answer = match process_verdict(formed, n, p) {
-            Verdict::Refused(refusal) => Answer::Refused(refusal),
-            Verdict::Accepted => match place.outcome() {
-                Signal::Absent => Answer::Refused(Refusal::NotMet),
-                Signal::Present(index, m) => {
-                    let guards = x.guards;
-                    let g = guard_at(x.count, guards, index);
-                    t.processes[i] = x.at_place(Place::Idle);
-                    Answer::Collected(index, g.partner, m)
-                }
-            },
-        };
+        let next = t.next;
+        let act = collect_act(formed, n, next, p, x);
+        let own = act.own;
+        let following = act.next;
+        let answer = act.answer;
+        t.processes[i] = own;
+        t.next = following;
         Reply {
             answer: answer,
             table: t,

@@ -2,8 +2,10 @@
 use alternative::Message;
 use process::Place;
 use process::Process;
+use process::Signal;
 use process::TransactionId;
 
+mod acts;
 mod collect;
 mod create;
 mod lending;
@@ -12,6 +14,12 @@ mod offer;
 mod runnable;
 mod step;
 mod well_formed;
+
+pub use acts::alone;
+pub use acts::collect_act;
+pub use acts::offer_act;
+pub use acts::step_act;
+pub use well_formed::count_fits;
 
 // The most processes that a table holds, and the transaction number that is never given out.
 pub const MOST_PROCESSES: u8 = 32;
@@ -55,6 +63,17 @@ pub enum Answer {
     Collected(u8, u8, Message),
     Runnable(u32),
     Refused(Refusal),
+}
+
+// What a call of one process does: its answer, the table's next ticket, the record of the process, and, where the process tells its
+// partner something, the partner's wake count and signal.
+pub struct Act {
+    pub answer: Answer,
+    pub next: TransactionId,
+    pub own: Process,
+    pub told: bool,
+    pub accepting: bool,
+    pub signal: Signal,
 }
 
 // An answer, and the table that the call hands back.

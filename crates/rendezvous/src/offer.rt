@@ -1,10 +1,10 @@
 // Offers of a list that is given by value.
-use crate::Answer;
 use crate::LAST_TRANSACTION;
 use crate::ProcessTable;
 use crate::Refusal;
 use crate::Reply;
 use crate::Verdict;
+use crate::acts::offer_act;
 use crate::well_formed::count_fits;
 use alternative::Guard;
 use alternative::GuardList;
@@ -85,7 +85,7 @@ fn state_verdict(place: Place, next: TransactionId) -> Verdict
 }
 
 // The record of a process whose offer is accepted.
-fn entered(x: Process, ticket: TransactionId, list: GuardList) -> Process
+pub fn entered(x: Process, ticket: TransactionId, list: GuardList) -> Process
     requires { ⌜ list .count ≤ 8 ⌝ }
     ensures { λ r. ⌜ r ≡ entering x ticket list ⌝ }
 {
@@ -106,7 +106,7 @@ fn entered(x: Process, ticket: TransactionId, list: GuardList) -> Process
 }
 
 // Every refusal of an offer, in its order: `formed` says whether the table is well-formed, `place` is the process's.
-fn offer_verdict(
+pub fn offer_verdict(
     formed: bool,
     n: u8,
     p: u8,
@@ -148,18 +148,13 @@ impl ProcessTable {
         }
         let i = (p % 32) as usize;
         let x = t.processes[i];
-        let place = x.place;
         let next = t.next;
-        let answer = match offer_verdict(formed, n, p, list, place, next) {
-            Verdict::Refused(refusal) => Answer::Refused(refusal),
-            Verdict::Accepted => {
-                let y = entered(x, next, list);
-                let following = TransactionId(next.0 + 1);
-                t.processes[i] = y;
-                t.next = following;
-                Answer::Offered(next)
-            }
-        };
+        let act = offer_act(formed, n, next, p, x, list);
+        let own = act.own;
+        let following = act.next;
+        let answer = act.answer;
+        t.processes[i] = own;
+        t.next = following;
         Reply {
             answer: answer,
             table: t,

@@ -2,19 +2,17 @@
 use crate::Answer;
 use crate::ProcessTable;
 use crate::Reply;
-use crate::Verdict;
+use crate::acts::step_act;
 use crate::well_formed::count_fits;
-use crate::well_formed::process_verdict;
 use process::Place;
 use process::posted_by;
 use process::process_fits;
-use process::rule;
 ghost use mathlib.Core.Path.{_≡_};
 ghost use mathlib.Core.Bool.{cond};
 ghost use Rattle.rendezvous.specs.Calls.{step};
 
 // What a step says: the new place, or that nothing changed.
-fn moved_answer(moved: bool, place: Place) -> Answer
+pub fn moved_answer(moved: bool, place: Place) -> Answer
     ensures { λ r. ⌜ r ≡ cond moved (Answer.Moved place) Answer.Unchanged ⌝ }
 {
     if moved {
@@ -47,22 +45,19 @@ impl ProcessTable {
         let q = x.partner();
         let j = (q % 32) as usize;
         let y = t.processes[j];
-        let answer = match process_verdict(formed, n, p) {
-            Verdict::Refused(refusal) => Answer::Refused(refusal),
-            Verdict::Accepted => {
-                let c = rule(p, x, q, y);
-                let own = c.own;
-                let place = own.place;
-                let signal = c.signal;
-                if c.told {
-                    // Read anew: y would be kept, and so copied, across the rule.
-                    let partner = t.processes[j];
-                    t.processes[j] = partner.told(c.accepting, signal);
-                }
-                t.processes[i] = own;
-                moved_answer(c.moved, place)
-            }
-        };
+        let next = t.next;
+        let act = step_act(formed, n, next, p, x, q, y);
+        if act.told {
+            // Read anew: y would be kept, and so copied, across the rule.
+            let partner = t.processes[j];
+            let signal = act.signal;
+            t.processes[j] = partner.told(act.accepting, signal);
+        }
+        let own = act.own;
+        let following = act.next;
+        let answer = act.answer;
+        t.processes[i] = own;
+        t.next = following;
         Reply {
             answer: answer,
             table: t,

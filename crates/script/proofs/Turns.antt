@@ -1,5 +1,5 @@
 -- Laws of one line's turn: the command in the form of the code, and the table that a refused call hands back.
-use Prim.Native.Nat.{ℕ, _≤_}
+use Prim.Native.Nat.{ℕ, _≤_, _<_}
 use Prim.Native.Char.{code}
 use mathlib.Core.Path.{_≡_, refl, sym, ap, _∙_}
 use mathlib.Core.Bool.{Bool, true, false, cond, false≢true}
@@ -15,16 +15,20 @@ use Rattle.process.specs.Rules.{Effect, Neither, Own, Both, partnerOf}
 use Rattle.rendezvous.specs.Types.{Process, Place, Idle, Entering, Scanning, Trying, Committed, Posting, Opening, Showing, Asleep, Waiting, Met}
 use Rattle.rendezvous.specs.declared.Verdict.{Verdict}
 use Rattle.rendezvous.specs.declared.Verdict.the-variants.{Accepted}
-use Rattle.rendezvous.specs.Table.{process}
-use Rattle.rendezvous.specs.Refusals.{offerVerdict, processVerdict, tableVerdict}
+use Rattle.rendezvous.specs.Table.{process, freshTable}
+use Rattle.rendezvous.specs.declared.Refusal.the-variants.{ProcessCount}
+use Rattle.rendezvous.specs.WellFormed.{countFits}
+use Rattle.rendezvous.specs.Refusals.{createVerdict, offerVerdict, processVerdict, tableVerdict}
 use Rattle.rendezvous.specs.Numbers.{said}
 use Rattle.rendezvous.specs.Calls.{ifAccepted, create, offered, offerList, effectOn, applied, stepped, step, collected, collect, runnable, runnableSet}
-use Rattle.script.specs.Types.{GuardList, ProcessTable, Runnable, Reply, Command, New, Offer, Step, Collect, Movers}
+use Rattle.script.specs.Types.{GuardList, ProcessTable, Answer, Made, Unchanged, Runnable, Reply, Command, New, Offer, Step, Collect, Movers}
 use Rattle.script.specs.Printing.{field, commandText, answerText, ended}
 use Rattle.script.specs.Lines.{Ended, lineCommand}
 use Rattle.script.specs.Session.{replyTo, isRefused, Turn, malformed, answered, turnBy, turn}
 use Rattle.script.specs.Feeding.{tableOf}
-use Rattle.script.specs.Private.{readyKind, madeAfter, newReply, lineText}
+use Rattle.script.specs.Private.{readyKind, madeAfter, newReply, calledBy, lineText}
+use Rattle.rendezvous.proofs.Forms.{count-most}
+use Rattle.rendezvous.proofs.Verdicts.{passed}
 use Rattle.script.proofs.Texts.{answer-length, number-length, refusal-length}
 
 -- a turn by the kind, the number and the guards that the code reads off a line
@@ -143,37 +147,72 @@ new-turn made t command n = go made (isRefused (create n .answer)) refl
     go false true b = rw (b, b)
     go false false b = rw (b, b)
 
--- the reply with which the code goes on, after the reply before it
-abbrev pub replyAfter : Reply → Kind → ℕ → GuardList → Reply
-replyAfter r Kind.Malformed n list = r
-replyAfter r Kind.New n list = newReply (r .table) n
-replyAfter r Kind.Offer n list = offerList (r .table) n list
-replyAfter r Kind.Step n list = step (r .table) n
-replyAfter r Kind.Collect n list = collect (r .table) n
-replyAfter r Kind.Movers n list = runnable (r .table)
+-- the reply with which the code goes on; a malformed line has no answer
+abbrev pub replyAfter : ProcessTable → Kind → ℕ → GuardList → Reply
+replyAfter t Kind.New n list = newReply t n
+replyAfter t Kind.Movers n list = runnable t
+replyAfter t Kind.Malformed n list = calledBy t Kind.Malformed n list
+replyAfter t Kind.Offer n list = calledBy t Kind.Offer n list
+replyAfter t Kind.Step n list = calledBy t Kind.Step n list
+replyAfter t Kind.Collect n list = calledBy t Kind.Collect n list
+
+-- `n` and `m` come after the calls of one process, which they find undone
+pub after-new : (t u : ProcessTable) (k : Kind) (n : ℕ) (list : GuardList) (a : Answer) (reply : Reply) → record { answer = a; table = u } ≡ calledBy t k n list
+    → k ≡ Kind.New → reply ≡ newReply u n → reply ≡ replyAfter t k n list
+after-new t u k n list a reply called e f =
+    let undone : _≡_ {A = Reply} (record { answer = a; table = u }) (record { answer = Unchanged; table = t }) = rw e at called in
+    rw (e, f, ap (λ (r : Reply). r .table) undone)
+
+runnable-table : (t : ProcessTable) → runnable t .table ≡ t
+unfolding runnable
+runnable-table t = go (tableVerdict t)
+  where
+    go : (v : Verdict) → ifAccepted v t (record { answer = Runnable (runnableSet t); table = t }) .table ≡ t
+    go Accepted = refl
+    go (Verdict.Refused r) = refl
+
+pub after-movers : (t u : ProcessTable) (k : Kind) (n : ℕ) (list : GuardList) (a : Answer) (reply : Reply) → record { answer = a; table = u } ≡ calledBy t k n list
+    → k ≡ Kind.Movers → reply ≡ runnable u → record { answer = reply .answer; table = u } ≡ replyAfter t k n list
+after-movers t u k n list a reply called e f =
+    let undone : _≡_ {A = Reply} (record { answer = a; table = u }) (record { answer = Unchanged; table = t }) = rw e at called in
+    rw (e, f, ap (λ (r : Reply). r .table) undone) (ap (λ (v : ProcessTable). record { answer = runnable t .answer; table = v }) (sym (runnable-table t)))
 
 -- what the code prints and leaves, by the kind of a command
 abbrev leftAt : Bool → Kind → ℕ → Reply → Turn
 leftAt made k n r = record { prints = lineText k n (r .answer); table = tableOf (madeAfter made k (r .answer)) (r .table) }
 
 -- .. is what the definitions say of that kind; `n` and a malformed line need no table
-left-turn : (made : Bool) (r : Reply) (k : Kind) (n : ℕ) (list : GuardList) → (onTable k ≡ true → made ≡ true) → leftAt made k n (replyAfter r k n list) ≡ turnAt made (r .table) k n list
+left-turn : (made : Bool) (t : ProcessTable) (k : Kind) (n : ℕ) (list : GuardList) → (onTable k ≡ true → made ≡ true) → leftAt made k n (replyAfter t k n list) ≡ turnAt made t k n list
 unfolding lineText
-left-turn made r Kind.Malformed n list h = refl
-left-turn made r Kind.New n list h = new-turn made (r .table) (code "n" ∷ field (decimalText n)) n
-left-turn made r Kind.Offer n list h = rw (h refl) (call-turn (r .table) (code "o" ∷ field (decimalText n)) _ (offer-hands (r .table) n list))
-left-turn made r Kind.Step n list h = rw (h refl) (call-turn (r .table) (code "s" ∷ field (decimalText n)) _ (step-hands (r .table) n))
-left-turn made r Kind.Collect n list h = rw (h refl) (call-turn (r .table) (code "c" ∷ field (decimalText n)) _ (collect-hands (r .table) n))
-left-turn made r Kind.Movers n list h = rw (h refl) (call-turn (r .table) (code "m" ∷ []) _ (runnable-hands (r .table)))
+left-turn made t Kind.Malformed n list h = refl
+left-turn made t Kind.New n list h = new-turn made t (code "n" ∷ field (decimalText n)) n
+left-turn made t Kind.Offer n list h = rw (h refl) (call-turn t (code "o" ∷ field (decimalText n)) _ (offer-hands t n list))
+left-turn made t Kind.Step n list h = rw (h refl) (call-turn t (code "s" ∷ field (decimalText n)) _ (step-hands t n))
+left-turn made t Kind.Collect n list h = rw (h refl) (call-turn t (code "c" ∷ field (decimalText n)) _ (collect-hands t n))
+left-turn made t Kind.Movers n list h = rw (h refl) (call-turn t (code "m" ∷ []) _ (runnable-hands t))
 
 -- what the code prints and leaves is the line's turn
-pub line-turn : (made : Bool) (r r′ : Reply) (line : List ℕ) (p : Parsed) (k : Kind) (text : List ℕ) (made′ : Bool) → p ≡ asParsed (lineCommand (Ended line)) → k ≡ readyKind made (p .kind)
-    → r′ ≡ replyAfter r k (p .number) (p .list) → text ≡ lineText k (p .number) (r′ .answer) → made′ ≡ madeAfter made k (r′ .answer)
-    → _≡_ {A = Turn} (record { prints = text; table = tableOf made′ (r′ .table) }) (turn (tableOf made (r .table)) (lineCommand (Ended line)))
-line-turn made r r′ line p k text made′ parsed counts called prints makes =
-    let left : leftAt made k (p .number) r′ ≡ turnAt made (r .table) k (p .number) (p .list) = rw called (left-turn made r k (p .number) (p .list) (ready-made made k (p .kind) counts)) in
-    let by : turnAt made (r .table) k (p .number) (p .list) ≡ turn (tableOf made (r .table)) (lineCommand (Ended line)) = rw (counts, parsed) (sym (turn-by made (r .table) (lineCommand (Ended line)))) in
+pub line-turn : (made : Bool) (t : ProcessTable) (reply : Reply) (line : List ℕ) (p : Parsed) (k : Kind) (text : List ℕ) (made′ : Bool) → p ≡ asParsed (lineCommand (Ended line))
+    → k ≡ readyKind made (p .kind) → reply ≡ replyAfter t k (p .number) (p .list) → text ≡ lineText k (p .number) (reply .answer) → made′ ≡ madeAfter made k (reply .answer)
+    → _≡_ {A = Turn} (record { prints = text; table = tableOf made′ (reply .table) }) (turn (tableOf made t) (lineCommand (Ended line)))
+line-turn made t reply line p k text made′ parsed counts called prints makes =
+    let left : leftAt made k (p .number) reply ≡ turnAt made t k (p .number) (p .list) = rw called (left-turn made t k (p .number) (p .list) (ready-made made k (p .kind) counts)) in
+    let by : turnAt made t k (p .number) (p .list) ≡ turn (tableOf made t) (lineCommand (Ended line)) = rw (counts, parsed) (sym (turn-by made t (lineCommand (Ended line)))) in
     rw (prints, makes) (left ∙ by)
+
+-- a table as the machine holds it: 32 records, and the number of processes in a byte
+pub record Held (t : ProcessTable) : Type 0 where
+  pub records : length (t .processes) ≡ 32
+  pub byte : t .n < 256
+
+pub held-new : (t : ProcessTable) (n : ℕ) (reply : Reply) → Held t → reply ≡ newReply t n → Held (reply .table)
+unfolding newReply create createVerdict
+held-new t n reply h e = rw e (go (createVerdict n) refl)
+  where
+    go : (v : Verdict) → createVerdict n ≡ v → let reply = ifAccepted v (freshTable 0) (record { answer = Made; table = freshTable n }) in
+        Held (cond (isRefused (reply .answer)) (record { answer = reply .answer; table = t }) reply .table)
+    go Accepted f = let most = count-most n (passed (countFits n) ProcessCount Accepted f .0) in record { records = refl; byte = omega arith }
+    go (Verdict.Refused r) f = h
 
 -- a line prints 64 bytes at most
 answered-length : (table : Option ProcessTable) (command : List ℕ) (reply : Reply) → length command ≤ 12 → length (answered table command reply .prints) ≤ 64

@@ -6,9 +6,9 @@ use mathlib.Core.List.{List, [], _∷_}
 use Rattle.text.specs.Writing.{decimalText}
 use Rattle.command.specs.declared.Kind.{Kind}
 use Rattle.command.specs.declared.Kind.the-variants.{Malformed}
-use Rattle.rendezvous.specs.Calls.{create}
+use Rattle.rendezvous.specs.Calls.{create, offerList, step, collect}
 use Rattle.rendezvous.specs.Numbers.{said}
-use Rattle.script.specs.Types.{ProcessTable, Answer, Reply}
+use Rattle.script.specs.Types.{GuardList, ProcessTable, Answer, Unchanged, Reply}
 use Rattle.script.specs.Printing.{field, refusalText, answerText, ended}
 use Rattle.script.specs.Session.{isRefused}
 
@@ -34,6 +34,15 @@ madeAfter made Kind.Movers answer = made
 -- the reply to `n`, with the table that goes on
 unfoldable pub newReply : ProcessTable → ℕ → Reply
 newReply t n = cond (isRefused (create n .answer)) (record { answer = create n .answer; table = t }) (create n)
+
+-- the reply to a call of one process; a command of another kind changes nothing
+abbrev pub calledBy : ProcessTable → Kind → ℕ → GuardList → Reply
+calledBy t Kind.Offer n list = offerList t n list
+calledBy t Kind.Step n list = step t n
+calledBy t Kind.Collect n list = collect t n
+calledBy t Malformed n list = record { answer = Unchanged; table = t }
+calledBy t Kind.New n list = record { answer = Unchanged; table = t }
+calledBy t Kind.Movers n list = record { answer = Unchanged; table = t }
 
 -- the line of a command's kind and number, and its answer
 unfoldable pub lineText : Kind → ℕ → Answer → List ℕ

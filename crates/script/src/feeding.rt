@@ -3,6 +3,7 @@
 // line, and each function that takes and gives it would copy it twice.
 use crate::Fed;
 use crate::Session;
+use crate::acting::line_act;
 use crate::lines::MOST_BYTES;
 use crate::lines::is_refused;
 use crate::lines::line_command;
@@ -13,9 +14,11 @@ use crate::output::put;
 use crate::printing::malformed_line;
 use crate::printing::printed_line;
 use command::Kind;
-use rendezvous::Answer;
+use process::posted_by;
+use process::process_fits;
 use rendezvous::ProcessTable;
 use rendezvous::Reply;
+use rendezvous::count_fits;
 use text::Text;
 ghost use Prim.Native.Nat.{_/_, min};
 ghost use mathlib.Core.Path.{_≡_};
@@ -64,12 +67,7 @@ pub fn feed(session: Session, piece: &[u8], out: &mut [u8]) -> Fed
     ensures written { λ r. ⌜ now (out .exit) ≡ fed (stateOf session) (take (r .taken) (now (piece .entry))) .prints ++ drop (r .filled) (now (out .entry)) ⌝ }
 {
     let mut made = session.made;
-    let table = session.table;
-    // no line is answered yet: any answer will do
-    let mut reply = Reply {
-        answer: Answer::Unchanged,
-        table: table,
-    };
+    let mut table = session.table;
     let mut bytes = session.bytes;
     let mut held = least(session.length, MOST_BYTES + 1);
     let taken = least(piece.len(), out.len() / 64);
@@ -84,16 +82,50 @@ pub fn feed(session: Session, piece: &[u8], out: &mut [u8]) -> Fed
             let kind = ready(made, spelt);
             let number = command.number;
             let list = command.list;
-            let table = reply.table;
-            match kind {
-                Kind::Malformed => {}
-                Kind::New => reply = created(table, number),
-                Kind::Offer => reply = table.offer_list(number, list),
-                Kind::Step => reply = table.step(number),
-                Kind::Collect => reply = table.collect(number),
-                Kind::Movers => reply = table.runnable(),
+            let n = table.n;
+            let next = table.next;
+            let mut formed = count_fits(n);
+            let mut k: u8 = 0;
+            while k < n {
+                let at = (k % 32) as usize;
+                let z = table.processes[at];
+                let named = z.committed_to();
+                let there = (named % 32) as usize;
+                let posted = table.processes[there].altcount;
+                formed = formed & process_fits(n, k, z, posted_by(named, posted));
+                k = k + 1;
             }
-            let answer = reply.answer;
+            let at = (number % 32) as usize;
+            let x = table.processes[at];
+            let q = x.partner();
+            let there = (q % 32) as usize;
+            let y = table.processes[there];
+            let act = line_act(kind, number, list, formed, n, next, x, q, y);
+            if act.told {
+                let partner = table.processes[there];
+                let signal = act.signal;
+                table.processes[there] = partner.told(act.accepting, signal);
+            }
+            let own = act.own;
+            let following = act.next;
+            table.processes[at] = own;
+            table.next = following;
+            let mut answer = act.answer;
+            match kind {
+                Kind::New => {
+                    let reply = created(table, number);
+                    answer = reply.answer;
+                    table = reply.table;
+                }
+                Kind::Movers => {
+                    let reply = table.runnable();
+                    answer = reply.answer;
+                }
+                Kind::Malformed => {}
+                Kind::Offer => {}
+                Kind::Step => {}
+                Kind::Collect => {}
+            }
             filled = put(out, filled, printed_line(kind, number, answer));
             made = made_after(made, kind, answer);
             held = 0;
@@ -102,7 +134,6 @@ pub fn feed(session: Session, piece: &[u8], out: &mut [u8]) -> Fed
             held = held + 1;
         }
     }
-    let last = reply.table;
     Fed {
         taken: taken,
         filled: filled,
@@ -110,7 +141,7 @@ pub fn feed(session: Session, piece: &[u8], out: &mut [u8]) -> Fed
             made: made,
             length: held,
             bytes: bytes,
-            table: last,
+            table: table,
         },
     }
 }

@@ -3,6 +3,7 @@ use rendezvous::ProcessTable;
 ghost use Rattle.script.specs.Examples.{MarkedSession, MalformedLines};
 ghost use Rattle.script.specs.Feeding.{Pieces};
 
+mod acting;
 mod feeding;
 mod lines;
 mod output;

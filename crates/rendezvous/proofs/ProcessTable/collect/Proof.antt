@@ -1,13 +1,13 @@
 use Prim.Native.Nat.{_≤_, _-_}
-use mathlib.Core.Path.{_≡_, sym, _∙_}
+use mathlib.Core.Path.{_≡_, refl, _∙_}
 use mathlib.Core.Bool.{_&&_}
 use native.Mathlib.Omega.{arith}
 use borrow.Author.Needs.{needs}
 use lib.ListN.{length}
 use Rattle.rendezvous.specs.WellFormed.{allBelow, countFits, fitsAt}
+use Rattle.rendezvous.proofs.Done.{done-own}
 use Rattle.rendezvous.proofs.Forms.{formed-start, formed-more, formed-end}
 use Rattle.rendezvous.proofs.Lengths.{length-mapped}
-use Rattle.rendezvous.proofs.Steps.{process-asked, collect-refused, collect-unmet, collect-met}
 use Rattle.rendezvous.proofs.ProcessTable.collect.Statement.{statement}
 use Rattle.rendezvous.proofs.ProcessTable.collect.Tie as tie
 
@@ -30,28 +30,10 @@ loop-again c =
 
 returns : tie.Need-returns Inv-loop μ-loop
 returns c =
-    let v = c .before .before .before in
-    let l = v .before .before .before in
+    let s = c .before .before in
+    let l = s .before .before .before .before in
     let formed = formed-end _ (l .loop .k) _ (omega arith) (l .loop .inv .2) in
-    collect-refused _ _ _ (process-asked _ _ _ _ formed (v .process-verdict .ensures) ∙ c .before .refusal .given .1)
-
-returns-2 : tie.Need-returns-2 Inv-loop μ-loop
-returns-2 c =
-    let o = c .before .before in
-    let v = o .before .before .before in
-    let l = v .before .before .before in
-    let formed = formed-end _ (l .loop .k) _ (omega arith) (l .loop .inv .2) in
-    let accepted = process-asked _ _ _ _ formed (v .process-verdict .ensures) ∙ o .before .enum-told .given .1 in
-    collect-unmet _ _ accepted (sym (o .outcome .ensures) ∙ c .enum-told2 .given .1)
-
-returns-3 : tie.Need-returns-3 Inv-loop μ-loop
-returns-3 c =
-    let o = c .before .before .before .before .before .before in
-    let v = o .before .before .before in
-    let l = v .before .before .before in
-    let formed = formed-end _ (l .loop .k) _ (omega arith) (l .loop .inv .2) in
-    let accepted = process-asked _ _ _ _ formed (v .process-verdict .ensures) ∙ o .before .enum-told .given .1 in
-    collect-met _ _ accepted _ _ _ _ (sym (o .outcome .ensures) ∙ c .before .before .before .before .index .given .1) (c .before .guard-at .ensures) (c .at-place .ensures)
+    done-own _ _ _ 0 _ (s .collect-act .ensures .0) refl ∙ s .collect-act .ensures .1 _ 0 (formed, refl, refl, refl)
 
 pub collect-spec : {M : Type 1} → statement M
 collect-spec =
@@ -77,15 +59,6 @@ collect-spec =
     (λ c. omega arith)
     (λ c. omega arith)
     (λ c κs. search needs)
-    (λ c. search needs)
-    (λ c. search needs)
-    (λ c κs. search needs)
-    (λ c. search needs)
-    (λ c. search needs)
-    (λ c κs. search needs)
-    (λ c κs. search needs)
     (λ c. omega arith)
     (λ c. omega arith)
-    returns
-    returns-2
-    returns-3)
+    returns)

@@ -1,14 +1,14 @@
 use Prim.Native.Nat.{_≤_, _-_}
 use mathlib.Core.Logic.{⊎-elim}
-use mathlib.Core.Path.{_≡_, _∙_}
+use mathlib.Core.Path.{_≡_, refl, _∙_}
 use mathlib.Core.Bool.{_&&_}
 use native.Mathlib.Omega.{arith}
 use borrow.Author.Needs.{needs}
 use lib.ListN.{length}
 use Rattle.rendezvous.specs.WellFormed.{allBelow, countFits, fitsAt}
+use Rattle.rendezvous.proofs.Done.{done-both, done-own}
 use Rattle.rendezvous.proofs.Forms.{formed-start, formed-more, formed-end}
 use Rattle.rendezvous.proofs.Lengths.{length-mapped}
-use Rattle.rendezvous.proofs.Steps.{process-asked, step-refused, step-both, step-own}
 use Rattle.rendezvous.proofs.ProcessTable.step.Statement.{statement}
 use Rattle.rendezvous.proofs.ProcessTable.step.Tie as tie
 
@@ -31,22 +31,14 @@ loop-again c =
 
 returns : tie.Need-returns Inv-loop μ-loop
 returns c =
-    let v = c .before .before .before in
-    let l = v .before .before .before .before .before in
+    let s = c .before .before .before in
+    let l = s .before .before .before .before .before .before in
     let formed = formed-end _ (l .loop .k) _ (omega arith) (l .loop .inv .2) in
-    step-refused _ _ _ (process-asked _ _ _ _ formed (v .process-verdict .ensures) ∙ c .before .refusal .given .1)
-
-returns-2 : tie.Need-returns-2 Inv-loop μ-loop
-returns-2 c =
-    let r = c .before .before .before in
-    let v = r .before .before .before in
-    let l = v .before .before .before .before .before in
-    let formed = formed-end _ (l .loop .k) _ (omega arith) (l .loop .inv .2) in
-    let accepted = process-asked _ _ _ _ formed (v .process-verdict .ensures) ∙ r .before .enum-told .given .1 in
+    let does = s .step-act .ensures _ (formed, refl, refl, refl) (s .before .before .before .partner .ensures) refl in
     ⊎-elim
-    (λ a. step-both _ _ accepted _ (v .before .before .partner .ensures) _ (r .rule .ensures) _ (a .2 .ensures) (a .0 .taken) _ (a .3) _ (c .moved-answer .ensures))
-    (λ a. step-own _ _ accepted _ (v .before .before .partner .ensures) _ (r .rule .ensures) (a .0 .left) _ (a .1) _ (c .moved-answer .ensures))
-    (c .before .if1 .came)
+    (λ a. done-both _ _ _ _ _ _ (a .0 .taken) (a .2 .ensures) (a .3) ∙ does)
+    (λ a. done-own _ _ _ _ _ (a .0 .left) (a .1) ∙ does)
+    (c .before .before .if1 .came)
 
 pub step-spec : {M : Type 1} → statement M
 step-spec =
@@ -76,9 +68,6 @@ step-spec =
     (λ c. omega arith)
     (λ c. omega arith)
     (λ c κs. search needs)
-    (λ c. search needs)
-    (λ c. search needs)
-    (λ c κs. search needs)
     (λ c. omega arith)
     (λ c. omega arith)
     (λ c κs. search needs)
@@ -86,6 +75,4 @@ step-spec =
     (λ c. omega arith)
     (λ c. omega arith)
     (λ c. omega arith)
-    (λ c κs. search needs)
-    returns
-    returns-2)
+    returns)
