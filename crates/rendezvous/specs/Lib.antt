@@ -4,4 +4,5 @@ pub mod WellFormed
 pub mod Refusals
 pub mod Calls
 pub mod Acts
+pub mod Movers
 pub mod Numbers

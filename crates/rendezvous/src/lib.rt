@@ -4,6 +4,7 @@ use process::Place;
 use process::Process;
 use process::Signal;
 use process::TransactionId;
+ghost use Rattle.rendezvous.specs.Movers.{MoversChange};
 
 mod acts;
 mod collect;
@@ -81,3 +82,8 @@ pub struct Reply {
     pub answer: Answer,
     pub table: ProcessTable,
 }
+
+// Carries the claim that the set of `runnable` tells which steps change the table, so that the verdict has a line for it.
+pub fn movers_change()
+    ensures { λ _. ⌜ MoversChange ⌝ }
+{}
