@@ -8,6 +8,10 @@
 //!
 //! `out` takes the table that a call hands back and `answer` the answer, each at its front. A
 //! buffer that is too short stays as it is, and the call returns false.
+//!
+//! A call is one step of the whole table. Where two cores share a table, hold one lock from
+//! reading the table to storing the one that the call hands back. In which order the cores get
+//! the lock does not matter: that is demand 3 (crates/history/specs/Demand3.antt).
 
 // A program calls only what it needs.
 #![allow(dead_code)]
