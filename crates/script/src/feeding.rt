@@ -1,6 +1,5 @@
-// The session, piece by piece. A copy of the table is most of a line's work, so the loop keeps the whole reply to the last line, with
-// the table in it: a call gives the next reply in its place. A table that is a local of its own would be copied once more for each
-// line, and each function that takes and gives it would copy it twice.
+// The session, piece by piece. A function that takes a table copies it, and that would be most of a line's work. So the loop keeps the
+// table in its place: it tests the table, reads the records that a call looks at, and writes what the call does.
 use crate::Fed;
 use crate::Session;
 use crate::acting::line_act;
@@ -82,6 +81,7 @@ pub fn feed(session: Session, piece: &[u8], out: &mut [u8]) -> Fed
             let kind = ready(made, spelt);
             let number = command.number;
             let list = command.list;
+            // what a call reads: whether the table is well-formed, and the records of its process and of the partner
             let n = table.n;
             let next = table.next;
             let mut formed = count_fits(n);
@@ -101,6 +101,7 @@ pub fn feed(session: Session, piece: &[u8], out: &mut [u8]) -> Fed
             let there = (q % 32) as usize;
             let y = table.processes[there];
             let act = line_act(kind, number, list, formed, n, next, x, q, y);
+            // what it does
             if act.told {
                 let partner = table.processes[there];
                 let signal = act.signal;
@@ -111,6 +112,7 @@ pub fn feed(session: Session, piece: &[u8], out: &mut [u8]) -> Fed
             table.processes[at] = own;
             table.next = following;
             let mut answer = act.answer;
+            // the two commands that are about the whole table
             match kind {
                 Kind::New => {
                     let reply = created(table, number);
