@@ -13,7 +13,7 @@ use Rattle.process.specs.Types.{Guard, Found, At, Missing, Signal, Absen
 use Rattle.process.specs.Process.{stateOf, indexOf, ownList, postedList, ownGuard}
 use Rattle.process.specs.Rules.{Effect, Neither, Own, Both, changed, scanFrom, scan, try, handOver, absorb, ruleAt, rule, namedBy, partnerOf}
 use Rattle.process.specs.Fits.{allGuards, partnerFits, listFits, signalFits, placeFits, processFits}
-use Rattle.process.specs.Private.{committedAt}
+use Rattle.process.specs.Form.{committedAt}
 
 abbrev pub Kept : Process → Effect → Type 0
 Kept y Neither = Unit {0}

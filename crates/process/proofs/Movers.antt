@@ -1,13 +1,13 @@
 -- Which rules change anything: exactly those other than 6, 14 and 15.
 use Prim.Native.Nat.{ℕ, suc}
-use mathlib.Core.Path.{_≡_, refl, sym}
+use mathlib.Core.Path.{_≡_, refl, sym, ap, _∙_}
 use mathlib.Core.Bool.{Bool, true, false, not, _||_}
 use lib.Dec.{eqb, ltb, leb}
 use borrow.Author.Tests.{ltb-true, ltb-false, le-leb, lt-leb}
 use Rattle.alternative.specs.Guards.{firstMatch}
 use Rattle.process.specs.Types.{Found, At, Missing, Signal, Absent, Present, Place, Idle, Entering, Scanning, Trying, Committed, Posting, Opening, Showing, Asleep, Waiting, Met, State, Running, Alt, Sleeping, Process}
 use Rattle.process.specs.Process.{stateOf, postedList, ownGuard}
-use Rattle.process.specs.Rules.{scanFrom, scan, try, handOver, absorb, ruleAt, changes}
+use Rattle.process.specs.Rules.{scanFrom, scan, try, handOver, absorb, ruleAt, rule, changes}
 use Rattle.process.specs.Private.{heldBy, isPresent, changesAt}
 
 -- document 01's number of the rule that applies
@@ -101,7 +101,7 @@ try-changes x i y true Missing = sym (from-changes x (suc i))
 try-changes x i y false (At j) = sym (from-changes x (suc i))
 try-changes x i y false Missing = sym (from-changes x (suc i))
 
-pub changes-at : (p : ℕ) (x : Process) (q : ℕ) (y : Process) (place : Place) → changesAt x y place ≡ changes (ruleAt p x q y place)
+changes-at : (p : ℕ) (x : Process) (q : ℕ) (y : Process) (place : Place) → changesAt x y place ≡ changes (ruleAt p x q y place)
 unfolding handOver
 changes-at p x q y Entering = sym (from-changes x 0)
 changes-at p x q y Asleep = sym (from-changes x 0)
@@ -114,3 +114,8 @@ changes-at p x q y Showing = refl
 changes-at p x q y Waiting = present-absorb x (x .signal)
 changes-at p x q y Idle = refl
 changes-at p x q y (Met i m) = refl
+
+-- what the code tells of a record's place holds whatever the numbers of the process and its partner are
+pub changes-told : (x y : Process) (place : Place) (r : Bool) → x .place ≡ place → r ≡ changesAt x y place → (p q : ℕ) → r ≡ changes (rule p x q y)
+unfolding rule
+changes-told x y place r e f p q = f ∙ changes-at p x q y place ∙ sym (ap (λ (l : Place). changes (ruleAt p x q y l)) e)

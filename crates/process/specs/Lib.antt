@@ -2,4 +2,5 @@ pub mod Types
 pub mod Process
 pub mod Rules
 pub mod Fits
+pub mod Form
 pub mod Private

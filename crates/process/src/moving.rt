@@ -3,8 +3,10 @@ use crate::Place;
 use crate::Process;
 use crate::Signal;
 use crate::State;
+ghost use Prim.Native.Nat.{ℕ};
 ghost use mathlib.Core.Path.{_≡_};
-ghost use Rattle.process.specs.Private.{isHeld, isPresent, changesAt};
+ghost use Rattle.process.specs.Rules.{rule, changes};
+ghost use Rattle.process.specs.Private.{isHeld, isPresent};
 
 // Whether a partner with record y makes process x wait where it scans: it is busy, and not older (rule 6).
 fn is_held(x: Process, y: Process) -> bool
@@ -30,7 +32,7 @@ fn is_present(signal: Signal) -> bool
 
 // Whether a rule changes anything for a process with record x and partner y: every rule but 6, 14 and 15 does.
 pub fn would_change(x: Process, y: Process) -> bool
-    ensures { λ r. ⌜ r ≡ changesAt x y (x .place) ⌝ }
+    ensures { λ r. ⌜ ((p q : ℕ) → r ≡ changes (rule p x q y)) ⌝ }
 {
     let place = x.place;
     let signal = x.signal;

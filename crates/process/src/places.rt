@@ -5,7 +5,7 @@ use crate::State;
 use alternative::Found;
 ghost use mathlib.Core.Path.{_≡_};
 ghost use Rattle.process.specs.Process.{letterOf, stateOf, indexOf, isIdle};
-ghost use Rattle.process.specs.Private.{asFound, outcomeOf};
+ghost use Rattle.process.specs.Form.{asFound, outcomeOf};
 
 impl Place {
     pub fn state(self) -> State

@@ -16,7 +16,7 @@ ghost use lib.Dec.{ltb};
 ghost use Rattle.alternative.specs.Guards.{firstMatch};
 ghost use Rattle.process.specs.Process.{stateOf, postedList, ownGuard};
 ghost use Rattle.process.specs.Rules.{Neither, Own, atPlace, withAccepting, withOwnPosted, scanFrom, scan, try, handOver, absorb, rule};
-ghost use Rattle.process.specs.Private.{changeOf};
+ghost use Rattle.process.specs.Form.{changeOf};
 
 // Nothing changes.
 fn stay(x: Process, y: Process) -> Change

@@ -11,7 +11,7 @@ use Rattle.process.specs.declared.Signal.the-variants.{Absent, Present}
 use Rattle.process.specs.declared.Change.{Change}
 use Rattle.process.specs.Process.{ownGuard, nobody}
 use Rattle.process.specs.Rules.{changed, atPlace, rule, partnerOf}
-use Rattle.process.specs.Private.{changeOf, outcomeOf}
+use Rattle.process.specs.Form.{changeOf, outcomeOf}
 use Rattle.rendezvous.specs.declared.Act.{Act}
 use Rattle.rendezvous.specs.Types.{TransactionId, Process, Idle, ProcessTable, Refusal, NotWellFormed, NoSuchProcess, NotMet, Verdict, Accepted, Answer, Offered, Moved, Unchanged, Collected, Reply}
 use Rattle.rendezvous.specs.Table.{process, put}

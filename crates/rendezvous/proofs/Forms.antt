@@ -13,7 +13,7 @@ use Rattle.rendezvous.specs.declared.ProcessTable.{ProcessTable}
 use Rattle.rendezvous.specs.Table.{mostProcesses, process}
 use Rattle.process.specs.Process.{nobody}
 use Rattle.process.specs.Fits.{processFits}
-use Rattle.process.specs.Private.{committedAt}
+use Rattle.process.specs.Form.{committedAt}
 use Rattle.process.proofs.Kept.{fits-committed}
 use Rattle.alternative.proofs.Tests.{and-parts}
 use Rattle.rendezvous.specs.WellFormed.{allBelow, countFits, fitsAt, wellFormed}

@@ -13,9 +13,8 @@ use Rattle.process.specs.declared.Signal.the-variants.{Absent, Present}
 use Rattle.process.specs.declared.Change.{Change}
 use Rattle.process.specs.Process.{ownGuard, nobody}
 use Rattle.process.specs.Rules.{Effect, Neither, Own, Both, changed, atPlace, rule, partnerOf, changes}
-use Rattle.process.specs.Private.{changeOf, changesAt, outcomeOf}
+use Rattle.process.specs.Form.{changeOf, outcomeOf}
 use Rattle.process.proofs.Kept.{Kept, rule-kept, partner-below}
-use Rattle.process.proofs.Movers.{changes-at}
 use Rattle.rendezvous.specs.Types.{Message, Guard, Place, Idle, Entering, Scanning, Trying, Committed, Posting, Opening, Showing, Asleep, Waiting, Met, Process, ProcessTable, Refusal, NotWellFormed, NoSuchProcess, NotMet, Verdict, Accepted, Answer, Moved, Unchanged, Collected, Reply}
 use Rattle.rendezvous.specs.Table.{process, put}
 use Rattle.rendezvous.specs.WellFormed.{fitsAt, wellFormed}
@@ -155,11 +154,10 @@ process-accepted t p e h = rw (e, lt-ltb p (t .n) h)
 
 -- what the code reads of process p tells whether a step changes the table
 pub member-read : (t : ProcessTable) (p q : ℕ) (r : Bool) → wellFormed t ≡ true → p < t .n → q ≡ partnerOf (process t (p % 32))
-    → r ≡ changesAt (process t (p % 32)) (process t (q % 32)) (process t (p % 32) .place) → changes (effectOn t p) ≡ r
-unfolding effectOn rule
+    → ((m n : ℕ) → r ≡ changes (rule m (process t (p % 32)) n (process t (q % 32)))) → changes (effectOn t p) ≡ r
+unfolding effectOn
 member-read t p q r e h f g =
     let i = inside t p (process-accepted t p e h) in
     let at-q : q ≡ partnerOf (process t p) = rw (i .own) at f in
-    let x = process t p in
-    let read : r ≡ changesAt x (process t (partnerOf x)) (x .place) = rw (i .own, at-q, i .partner) at g in
-    sym (read ∙ changes-at p x (partnerOf x) (process t (partnerOf x)) (x .place))
+    let read : r ≡ changes (rule p (process t (p % 32)) q (process t (q % 32))) = g p q in
+    sym (rw (i .own, at-q, i .partner) at read)

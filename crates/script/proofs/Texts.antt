@@ -13,7 +13,7 @@ use Rattle.text.proofs.Printed.{decimal-text-length, whole-text-length, hex-tex
 use Rattle.rendezvous.specs.Numbers.{Said, made, ticket, place, same, outcome, movers, refusal}
 use Rattle.script.specs.Types.{Message, Nothing, Whole, Reading, Limit}
 use Rattle.script.specs.Printing.{messageText, field, refusalText, answerText, ended}
-use Rattle.process.specs.Private.{asFound}
+use Rattle.process.specs.Form.{asFound}
 
 -- an index that the code finds or misses
 pub found-none : (o : Option ℕ) → asFound o ≡ Missing → o ≡ none

@@ -1,7 +1,7 @@
 use mathlib.Core.Path.{_≡_, sym, ap, _∙_}
 use borrow.Author.Needs.{needs}
 use borrow.Author.Tests.{not-true, not-false}
-use Rattle.process.specs.Private.{changeOf}
+use Rattle.process.specs.Form.{changeOf}
 use Rattle.process.proofs.RuleLaws.{try-shut, try-missing, try-found, searched}
 use Rattle.process.proofs.rules.try_guard.Statement.{statement}
 use Rattle.process.proofs.rules.try_guard.Tie as tie
