@@ -201,16 +201,16 @@ line-turn made t reply line p k text made′ parsed counts called prints makes =
     rw (prints, makes) (left ∙ by)
 
 -- a table as the machine holds it: 32 records, and the number of processes in a byte
-pub record Held (t : ProcessTable) : Type 0 where
+pub record Sized (t : ProcessTable) : Type 0 where
   pub records : length (t .processes) ≡ 32
   pub byte : t .n < 256
 
-pub held-new : (t : ProcessTable) (n : ℕ) (reply : Reply) → Held t → reply ≡ newReply t n → Held (reply .table)
+pub sized-new : (t : ProcessTable) (n : ℕ) (reply : Reply) → Sized t → reply ≡ newReply t n → Sized (reply .table)
 unfolding newReply create createVerdict
-held-new t n reply h e = rw e (go (createVerdict n) refl)
+sized-new t n reply h e = rw e (go (createVerdict n) refl)
   where
     go : (v : Verdict) → createVerdict n ≡ v → let reply = ifAccepted v (freshTable 0) (record { answer = Made; table = freshTable n }) in
-        Held (cond (isRefused (reply .answer)) (record { answer = reply .answer; table = t }) reply .table)
+        Sized (cond (isRefused (reply .answer)) (record { answer = reply .answer; table = t }) reply .table)
     go Accepted f = let most = count-most n (passed (countFits n) ProcessCount Accepted f .0) in record { records = refl; byte = omega arith }
     go (Verdict.Refused r) f = h
 

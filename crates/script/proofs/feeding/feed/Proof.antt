@@ -16,7 +16,7 @@ use Rattle.script.specs.Printing.{endOfLine}
 use Rattle.script.specs.Feeding.{tableOf}
 use Rattle.script.specs.Private.{calledBy}
 use Rattle.script.proofs.Lists.{take-most, put-more, put-none}
-use Rattle.script.proofs.Turns.{replyAfter, after-new, after-movers, line-turn, Held, held-new}
+use Rattle.script.proofs.Turns.{replyAfter, after-new, after-movers, line-turn, Sized, sized-new}
 use Rattle.script.proofs.Going.{Going, going-start, going-byte, going-line, going-end}
 use Rattle.script.proofs.feeding.feed.Statement.{statement}
 use Rattle.script.proofs.feeding.feed.Tie as tie
@@ -28,7 +28,7 @@ abbrev μ-loop2 : tie.MeasureT-loop2
 μ-loop2 piece out made table bytes held taken filled i b kind number list n next formed₀ k₀ formed k = n - k
 
 abbrev Inv-loop : tie.InvT-loop
-Inv-loop piece out₀ made₀ table₀ bytes₀ held₀ taken filled₀ i₀ out made table bytes held filled i = (i ≤ taken) × (held ≤ 201) × (length bytes ≡ 201) × Held table × Going (record { begun = take held₀ bytes₀; table = tableOf made₀ table₀ }) (take taken piece) out₀ (record { begun = take held bytes; table = tableOf made table }) i out filled
+Inv-loop piece out₀ made₀ table₀ bytes₀ held₀ taken filled₀ i₀ out made table bytes held filled i = (i ≤ taken) × (held ≤ 201) × (length bytes ≡ 201) × Sized table × Going (record { begun = take held₀ bytes₀; table = tableOf made₀ table₀ }) (take taken piece) out₀ (record { begun = take held bytes; table = tableOf made table }) i out filled
 
 abbrev μ-loop : tie.MeasureT-loop
 μ-loop piece out₀ made₀ table₀ bytes₀ held₀ taken filled₀ i₀ out made table bytes held filled i = taken - i
@@ -90,14 +90,14 @@ replied c =
     (λ w. rw (w .2, w .3, w .1 .given .1) (rw (w .1 .given .1) at (called c)))))))
     (c .match .came)
 
-held-after : (c : tie.At-match-came Inv-loop2 μ-loop2 Inv-loop μ-loop) → Held (c .match .table)
-held-after c =
+sized-after : (c : tie.At-match-came Inv-loop2 μ-loop2 Inv-loop μ-loop) → Sized (c .match .table)
+sized-after c =
     let h = c .before .before .before .before .before .before .before .before .before .before .before .before .before .before .before .before .before .before .before .loop .inv .3 in
-    let kept : Held (carriedOut c .table) = ⊎-elim
+    let kept : Sized (carriedOut c .table) = ⊎-elim
     (λ a. rw (a .3) (record { records = simp length-set (h .records); byte = h .byte }))
     (λ a. rw (a .1) (record { records = simp length-set (h .records); byte = h .byte }))
     (c .before .before .before .if2 .came) in
-    ⊎-elim (λ w. rw (w .4) (held-new _ _ _ kept (w .2 .ensures)))
+    ⊎-elim (λ w. rw (w .4) (sized-new _ _ _ kept (w .2 .ensures)))
     (⊎-elim (λ w. rw (w .3) kept)
     (⊎-elim (λ w. rw (w .2) kept) (⊎-elim (λ w. rw (w .2) kept) (⊎-elim (λ w. rw (w .2) kept) (λ w. rw (w .2) kept)))))
     (c .match .came)
@@ -119,7 +119,7 @@ loop-again c =
       omega (arith, w .loop-test .taken),
       omega arith,
       l .loop .inv .2,
-      held-after m,
+      sized-after m,
       going-line _ _ _ _ (l .loop .i) _ _ _ (l .loop .inv .4) inside (sym (getD-take (l .before .least2 .result) (a .piece .now) (l .loop .i) 0 (omega (arith, w .loop-test .taken)))) _ _ _ _
           (v .before .before .before .if1 .taken) told (room w) (u .put .ensures .0) (u .put .ensures .1),
     )
