@@ -5,7 +5,7 @@ ghost use mathlib.Core.Path.{_≡_};
 ghost use lib.Ieee.{binary32, isNan, nanBits, toBits, ofBits};
 ghost use Rattle.alternative.specs.Exchange.{messageHoldsNan, actionHoldsNan};
 
-pub fn is_nan(x: f32) -> bool
+fn is_nan(x: f32) -> bool
     ensures { λ r. ⌜ r ≡ isNan x ⌝ }
 {
     x != x

@@ -1,16 +1,15 @@
 // Guard lists in arrays of eight.
 use crate::Guard;
 use crate::blank_guard;
+ghost use Prim.Native.Nat.{min};
 ghost use mathlib.Core.Path.{_≡_};
-ghost use mathlib.Core.Bool.{cond};
-ghost use lib.Dec.{ltb};
 ghost use lib.ListN.{take};
 ghost use Rattle.alternative.specs.Guards.{slots};
 
 // How many of the eight slots hold a list of `count` guards. A search that ends here, and not where its index is 8, is not unrolled
 // by the compiler, which would take the array and the record around it apart.
 pub fn held(count: usize) -> usize
-    ensures { λ r. ⌜ r ≡ cond (ltb count 8) count 8 ⌝ }
+    ensures { λ r. ⌜ r ≡ min count 8 ⌝ }
 {
     if count < 8 { count } else { 8 }
 }

@@ -23,7 +23,7 @@ fn are_opposite(a: Action, b: Action) -> bool
 }
 
 // Whether guard g of process p matches guard h of process q.
-pub fn guards_match(p: u8, g: Guard, q: u8, h: Guard) -> bool
+fn guards_match(p: u8, g: Guard, q: u8, h: Guard) -> bool
     ensures { λ r. ⌜ r ≡ guardsMatch p g q h ⌝ }
 {
     let a = g.action;
@@ -67,14 +67,8 @@ pub fn next_enabled(list: [Guard; 8], count: usize, from: usize) -> Found
 pub fn any_enabled(list: [Guard; 8], count: usize) -> bool
     ensures { λ r. ⌜ r ≡ anyGuard (λ g. g .enabled) (take count list) ⌝ }
 {
-    let end = held(count);
-    let mut k: usize = 0;
-    while k < end {
-        let g = list[k];
-        if g.enabled {
-            return true;
-        }
-        k = k + 1;
+    match next_enabled(list, count, 0) {
+        Found::At(_) => true,
+        Found::Missing => false,
     }
-    false
 }

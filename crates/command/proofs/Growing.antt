@@ -25,7 +25,7 @@ module _ (gs : List Guard) (g : Guard) where
       let out : length (gs ++ g ∷ []) ≤ i = omega (arith, longer-length) in
       slots-at gs i b ∙ List·getD-eq-default gs blank short ∙ sym (List·getD-eq-default (gs ++ g ∷ []) blank out)
 
-  pub slots-full : 8 ≤ length gs → slots gs ≡ slots (gs ++ g ∷ [])
+  slots-full : 8 ≤ length gs → slots gs ≡ slots (gs ++ g ∷ [])
   slots-full h = slots-are (gs ++ g ∷ []) (slots gs) (slots-length gs) (λ i b. kept i b (omega arith))
 
   added : length gs < 8 → (i : ℕ) → i < 8 → getD (set (slots gs) (length gs) g) i blank ≡ getD (gs ++ g ∷ []) i blank
@@ -42,7 +42,7 @@ module _ (gs : List Guard) (g : Guard) where
           let d = eqb-false i (length gs) q in
           getD-set-other (slots gs) (length gs) i g blank d ∙ past i b (omega (arith, l, d))
 
-  pub slots-more : length gs < 8 → set (slots gs) (length gs) g ≡ slots (gs ++ g ∷ [])
+  slots-more : length gs < 8 → set (slots gs) (length gs) g ≡ slots (gs ++ g ∷ [])
   slots-more h = slots-are (gs ++ g ∷ []) (set (slots gs) (length gs) g) (length-set (slots gs) (length gs) g ∙ slots-length gs) (added h)
 
   -- in the form of the code: the slots after a list's count

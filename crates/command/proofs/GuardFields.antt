@@ -7,9 +7,8 @@ use native.Mathlib.Omega.{arith}
 use lib.ListN.{length, take, drop, length-drop}
 use Rattle.text.specs.Types.{_>>=_}
 use Rattle.command.specs.Types.{Guard}
-use Rattle.command.specs.Commands.{Offer, guardOf, guardsOf}
-use Rattle.command.specs.Form.{asParsed}
-use Rattle.command.specs.Private.{notSpace, fieldLength, fieldsAfter, asOffer}
+use Rattle.command.specs.Commands.{guardOf, guardsOf}
+use Rattle.command.specs.Private.{notSpace, fieldLength, fieldsAfter}
 use Rattle.command.proofs.Leading.{leading-most, part-rest}
 use Rattle.command.proofs.Cuts.{next-cut, last-cut}
 
@@ -55,8 +54,3 @@ module _ (s : List ℕ) (i n : ℕ) (h : i < length s) (e : n ≡ fieldLength (t
 pub guards-end : (gs : List Guard) (s : List ℕ) (i : ℕ) → length s ≤ i → prefixed gs (guardsOf (fieldsAfter (drop i s))) ≡ some gs
 unfolding guardsOf prefixed
 guards-end gs s i h = rw (last-cut s i h, append-nil gs)
-
--- an offer by p, in the form of the code
-pub offer-parsed : (p : ℕ) (o : Option (List Guard)) → asOffer p o ≡ asParsed (_>>=_ o (λ gs. some (Offer p gs)))
-offer-parsed p none = refl
-offer-parsed p (some gs) = refl

@@ -14,7 +14,7 @@ use Rattle.text.specs.Reading.{provided}
 use Rattle.command.specs.Types.{Kind}
 use Rattle.command.specs.Form.{plain, asParsed}
 use Rattle.command.specs.Private.{asNumbered}
-use Rattle.command.specs.Commands.{Command, New, Step, Collect, Movers, isEmpty, fields, putBefore, numberOf, numbered, offerOf, byLetter, commandIn, commandOf}
+use Rattle.command.specs.Commands.{Command, Movers, isEmpty, fields, putBefore, numberOf, numbered, offerOf, byLetter, commandIn, commandOf}
 use Rattle.command.proofs.Heads.{empty-of, alone-of}
 use Rattle.command.proofs.Cuts.{fields-cut}
 
@@ -72,22 +72,13 @@ unfolding byLetter
 with-none k s n o t c = rw (ne-eqb k (code "n") n, ne-eqb k (code "o") o, ne-eqb k (code "s") t, ne-eqb k (code "c") c) (no-movers s (eqb k (code "m")))
 
 -- a command of one number, in the form of the code
-numbered-as : (kind : Kind) (make : ℕ → Command) → ((n : ℕ) → plain kind n ≡ asParsed (some (make n))) → (fs : List (List ℕ)) → asNumbered kind (numberOf fs) ≡ asParsed (numbered make fs)
+pub numbered-as : (kind : Kind) (make : ℕ → Command) → ((n : ℕ) → plain kind n ≡ asParsed (some (make n))) → (fs : List (List ℕ)) → asNumbered kind (numberOf fs) ≡ asParsed (numbered make fs)
 unfolding numbered
 numbered-as kind make h fs = go (numberOf fs)
   where
     go : (o : Option ℕ) → asNumbered kind o ≡ asParsed (_>>=_ o (λ n. some (make n)))
     go none = refl
     go (some n) = h n
-
-pub numbered-new : (fs : List (List ℕ)) → asNumbered Kind.New (numberOf fs) ≡ asParsed (numbered New fs)
-numbered-new = numbered-as Kind.New New (λ n. refl)
-
-pub numbered-step : (fs : List (List ℕ)) → asNumbered Kind.Step (numberOf fs) ≡ asParsed (numbered Step fs)
-numbered-step = numbered-as Kind.Step Step (λ n. refl)
-
-pub numbered-collect : (fs : List (List ℕ)) → asNumbered Kind.Collect (numberOf fs) ≡ asParsed (numbered Collect fs)
-numbered-collect = numbered-as Kind.Collect Collect (λ n. refl)
 
 -- a line by its length and its first two bytes
 pub line-empty : (s : List ℕ) → length s ≡ 0 → commandOf s ≡ none

@@ -1,4 +1,3 @@
-pub mod Numbers
 pub mod Leading
 pub mod Heads
 pub mod Cuts

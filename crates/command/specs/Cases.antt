@@ -11,13 +11,13 @@ use Rattle.text.specs.Ascii.{bytes}
 use Rattle.command.specs.Types.{Message, Nothing, Whole, Reading, Limit, Receive, Send, Guard}
 use Rattle.command.specs.Commands.{Command, New, Offer, Step, Collect, Movers, commandOf}
 
-abbrev pub says : String → Option Command
+abbrev says : String → Option Command
 says line = commandOf (bytes line)
 
-abbrev pub receives : ℕ → Guard
+abbrev receives : ℕ → Guard
 receives p = record { enabled = true; partner = p; action = Receive }
 
-abbrev pub sends : ℕ → Message → Guard
+abbrev sends : ℕ → Message → Guard
 sends p m = record { enabled = true; partner = p; action = Send m }
 
 pub record LineCases : Type 0 where

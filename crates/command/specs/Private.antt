@@ -7,9 +7,10 @@ use mathlib.Core.Path.{_≡_}
 use mathlib.Core.Option.{Option, some, none}
 use lib.Dec.{eqb}
 use Rattle.alternative.specs.Guards.{lent}
-use Rattle.command.specs.Types.{Message, Action, Guard, GuardList, Kind, Parsed, ReadNumber, ReadMessage, ReadAction, ReadGuard}
-use Rattle.command.specs.Commands.{fields, leading}
-use Rattle.command.specs.Form.{plain}
+use Rattle.text.specs.Types.{_>>=_}
+use Rattle.command.specs.Types.{Message, Action, Guard, GuardList, Kind, Parsed, ReadMessage, ReadAction, ReadGuard}
+use Rattle.command.specs.Commands.{Offer, fields, leading}
+use Rattle.command.specs.Form.{plain, asParsed}
 
 -- a command of one number
 abbrev pub asNumbered : Kind → Option ℕ → Parsed
@@ -18,14 +19,11 @@ asNumbered kind (some n) = plain kind n
 
 -- an offer by p
 abbrev pub asOffer : ℕ → Option (List Guard) → Parsed
-asOffer p none = plain Kind.Malformed 0
-asOffer p (some gs) = record { kind = Kind.Offer; number = p; list = lent gs }
+asOffer p o = asParsed (do
+  gs ← o
+  some (Offer p gs))
 
 -- what was read, if anything
-abbrev pub numberRead : ReadNumber → Option ℕ
-numberRead ReadNumber.Malformed = none
-numberRead (ReadNumber.Value n) = some n
-
 abbrev pub messageRead : ReadMessage → Option Message
 messageRead ReadMessage.Malformed = none
 messageRead (ReadMessage.Value m) = some m

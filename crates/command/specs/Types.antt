@@ -1,4 +1,4 @@
--- The types that the code declares, gathered for the files here: no definition of its own.
+-- To be believed as names only, gathered for the definitions here: the types that the code declares. No definition of its own.
 pub use Rattle.alternative.specs.declared.Message.{Message}
 pub use Rattle.alternative.specs.declared.Message.the-variants.{Nothing, Whole, Reading, Limit}
 pub use Rattle.alternative.specs.declared.Action.{Action}
@@ -7,7 +7,6 @@ pub use Rattle.alternative.specs.declared.Guard.{Guard}
 pub use Rattle.alternative.specs.declared.GuardList.{GuardList}
 pub use Rattle.command.specs.declared.Kind.{Kind}
 pub use Rattle.command.specs.declared.Parsed.{Parsed}
-pub use Rattle.command.specs.declared.ReadNumber.{ReadNumber}
 pub use Rattle.command.specs.declared.ReadMessage.{ReadMessage}
 pub use Rattle.command.specs.declared.ReadAction.{ReadAction}
 pub use Rattle.command.specs.declared.ReadGuard.{ReadGuard}

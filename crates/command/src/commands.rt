@@ -1,11 +1,11 @@
 // A whole line: its letter, and what stands after it.
 use crate::Kind;
 use crate::Parsed;
-use crate::ReadNumber;
 use crate::fields::field_length;
-use crate::fields::read_number;
 use crate::offers::parse_offer;
 use crate::plain_command;
+use text::ByteNumber;
+use text::read_byte_number;
 ghost use mathlib.Core.Path.{_≡_};
 ghost use mathlib.Core.List.{[]};
 ghost use Rattle.command.specs.Commands.{fields, numberOf, byLetter, commandOf};
@@ -19,9 +19,9 @@ fn parse_numbered(kind: Kind, s: &[u8]) -> Parsed
     if field_length(s) < s.len() {
         return plain_command(Kind::Malformed, 0);
     }
-    match read_number(s) {
-        ReadNumber::Malformed => plain_command(Kind::Malformed, 0),
-        ReadNumber::Value(n) => plain_command(kind, n),
+    match read_byte_number(s) {
+        ByteNumber::Malformed => plain_command(Kind::Malformed, 0),
+        ByteNumber::Value(n) => plain_command(kind, n),
     }
 }
 

@@ -2,12 +2,12 @@
 use crate::ReadAction;
 use crate::ReadGuard;
 use crate::ReadMessage;
-use crate::ReadNumber;
-use crate::fields::read_number;
 use crate::messages::read_message;
 use alternative::Action;
 use alternative::Guard;
+use text::ByteNumber;
 use text::is_digit;
+use text::read_byte_number;
 ghost use mathlib.Core.Path.{_≡_};
 ghost use Rattle.command.specs.Commands.{sendOf, actionOf, digitCount, guardFrom, guardOf};
 ghost use Rattle.command.specs.Private.{actionRead, guardRead};
@@ -63,9 +63,9 @@ fn guard_from(enabled: bool, s: &[u8]) -> ReadGuard
     ensures { λ r. ⌜ guardRead r ≡ guardFrom enabled (now (s .entry)) ⌝ }
 {
     let digits = digit_count(s);
-    match read_number(&s[..digits]) {
-        ReadNumber::Malformed => ReadGuard::Malformed,
-        ReadNumber::Value(partner) => match read_action(&s[digits..]) {
+    match read_byte_number(&s[..digits]) {
+        ByteNumber::Malformed => ReadGuard::Malformed,
+        ByteNumber::Value(partner) => match read_action(&s[digits..]) {
             ReadAction::Malformed => ReadGuard::Malformed,
             ReadAction::Value(action) => {
                 let guard = Guard {

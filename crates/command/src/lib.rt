@@ -47,23 +47,18 @@ fn plain_command(kind: Kind, number: u8) -> Parsed
     }
 }
 
-// What a part of a line writes, or malformed: a number, a message, an action, a guard.
-pub enum ReadNumber {
-    Malformed,
-    Value(u8),
-}
-
-pub enum ReadMessage {
+// What a part of a line writes, or malformed: a message, an action, a guard.
+enum ReadMessage {
     Malformed,
     Value(Message),
 }
 
-pub enum ReadAction {
+enum ReadAction {
     Malformed,
     Value(Action),
 }
 
-pub enum ReadGuard {
+enum ReadGuard {
     Malformed,
     Value(Guard),
 }

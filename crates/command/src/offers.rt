@@ -2,13 +2,13 @@
 use crate::Kind;
 use crate::Parsed;
 use crate::ReadGuard;
-use crate::ReadNumber;
 use crate::fields::field_length;
-use crate::fields::read_number;
 use crate::guards::read_guard;
 use crate::lists::no_guards;
 use crate::lists::with_guard;
 use crate::plain_command;
+use text::ByteNumber;
+use text::read_byte_number;
 ghost use mathlib.Core.Path.{_≡_};
 ghost use Rattle.command.specs.Commands.{fields, guardsOf, offerOf};
 ghost use Rattle.command.specs.Form.{asParsed};
@@ -45,8 +45,8 @@ pub fn parse_offer(s: &[u8]) -> Parsed
     ensures { λ r. ⌜ r ≡ asParsed (offerOf (fields (now (s .entry)))) ⌝ }
 {
     let end = field_length(s);
-    match read_number(&s[..end]) {
-        ReadNumber::Malformed => plain_command(Kind::Malformed, 0),
-        ReadNumber::Value(p) => offer_of(p, &s[end..]),
+    match read_byte_number(&s[..end]) {
+        ByteNumber::Malformed => plain_command(Kind::Malformed, 0),
+        ByteNumber::Value(p) => offer_of(p, &s[end..]),
     }
 }

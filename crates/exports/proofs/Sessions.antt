@@ -1,14 +1,15 @@
 -- A session's bytes, written part by part, are read as its state; and a text put at the front.
 use Prim.Native.Nat.{ℕ, zero, suc, _+_, _≤_, min}
 use mathlib.Core.Path.{_≡_, refl, sym, ap, _∙_}
-use mathlib.Core.Bool.{Bool, true, false, not, cond}
+use mathlib.Core.Bool.{true, cond, true≢false}
 use mathlib.Core.List.{List, [], _∷_, _++_, append-assoc, append-nil}
 use native.Mathlib.Omega.{arith}
+use borrow.Author.Needs.{length-unmapped}
 use borrow.Author.Tests.{le-leb}
 use mir.Val.{Val}
 use denote.Shadow.{shadow}
 use denote.Struct.Declared as declared
-use lib.Dec.{eqb, leb}
+use lib.Dec.{leb}
 use lib.ListN.{length, take, drop, set, replicate, length-append, length-take}
 use lib.Seq.{sets, take-all, drop-length, take-append-seam, drop-append-seam}
 use Rattle.text.specs.declared.Text.{Text}
@@ -19,7 +20,7 @@ use Rattle.script.proofs.Session as session
 use Rattle.script.proofs.Lists.{take-most}
 use Rattle.wire.specs.Claims.{Faithful}
 use Rattle.wire.specs.Writing.{flag, bytesOf, tableLength, onto}
-use Rattle.wire.proofs.Lengths.{length-mapped}
+use Rattle.wire.proofs.Back.{flag-back}
 use Rattle.wire.proofs.Lists.{sets-join, sets-front, sets-past}
 use Rattle.exports.specs.Types.{ProcessTable}
 use Rattle.exports.specs.Scripts.{stateIn, sessionLength, Keeps}
@@ -32,10 +33,7 @@ after-one a l k (x ∷ xs) = after-one a (set l k x) (suc k) xs
 -- bytes written over zeros
 pub over-zeros : (n m : ℕ) (xs : List ℕ) → n ≤ m → sets (replicate n 0) 0 xs ≡ take n (xs ++ replicate m 0)
 over-zeros zero m xs h = sets-past [] 0 xs (omega arith)
-over-zeros (suc n) zero xs h = absurd (none h)
-  where
-    none : suc n ≤ 0 → ⊥
-    none b = omega arith
+over-zeros (suc n) zero xs h = absurd (omega arith)
 over-zeros (suc n) (suc m) [] h = ap (λ (l : List ℕ). 0 ∷ l) (over-zeros n m [] (omega arith))
 over-zeros (suc n) (suc m) (x ∷ xs) h = after-one x (replicate n 0) 0 xs ∙ ap (λ (l : List ℕ). x ∷ l) (over-zeros n (suc m) xs (omega arith))
 
@@ -46,19 +44,9 @@ form-whole t l e =
     let gone : drop 7109 l ≡ [] = ap (λ (n : ℕ). drop n l) (sym e) ∙ drop-length l in
     rw (le-leb 7109 (length l) (omega arith)) (ap (λ (r : List ℕ). bytesOf t ++ r) gone ∙ append-nil (bytesOf t))
 
-pub no-true : false ≡ true → ⊥
-no-true e = let z : _≡_ {A = ℕ} 0 1 = cc in omega arith
-
-no-false : true ≡ false → ⊥
-no-false e = let z : _≡_ {A = ℕ} 0 1 = cc in omega arith
-
-flag-read : (b : Bool) → not (eqb (flag b) 0) ≡ b
-flag-read true = refl
-flag-read false = refl
-
 -- what owning a session tells of its bytes
 pub session-long : (s : Session) (vs : List Val) → shadow (declared.row session.the-type .own s vs) → length (s .bytes) ≡ 201
-session-long s vs h = search (length-mapped, h)
+session-long s vs h = search (length-unmapped, h)
 
 -- two bytes, the begun line's, the table's, and what stands behind them
 module _ (s : Session) (long : length (s .bytes) ≡ 201) (table : Faithful (s .table)) where
@@ -80,7 +68,7 @@ module _ (s : Session) (long : length (s .bytes) ≡ 201) (table : Faithful (s .
   unfolding stateIn
   session-read rest =
       let tail = bytesOf (s .table) ++ rest in
-      rw (begun-at tail, take-most (s .bytes) (s .length) 201 long, flag-read (s .made), table-at tail, table .read-back rest)
+      rw (begun-at tail, take-most (s .bytes) (s .length) 201 long, flag-back (s .made), table-at tail, table .read-back rest)
 
   to-table : 0 + length (two ++ s .bytes) ≡ 203
   to-table = omega (arith, length-append two (s .bytes))
@@ -101,7 +89,7 @@ module _ (s : Session) (long : length (s .bytes) ≡ 201) (table : Faithful (s .
   pub session-kept : (l l′ : List ℕ) → 7312 ≤ length l → l′ ≡ sets (sets (sets l 0 two) 2 (s .bytes)) 203 (bytesOf (s .table)) → Keeps (stateOf s) l l′ true
   session-kept l l′ h e =
       let laid : l′ ≡ whole (drop 7312 l) = e ∙ session-laid l h in
-      record { enough = sym (le-leb 7312 (length l) h); read-back = λ y. rw laid (session-read (drop 7312 l)); behind = rw laid (session-behind (drop 7312 l)); short = λ n. absurd (no-false n) }
+      record { enough = sym (le-leb 7312 (length l) h); read-back = λ y. rw laid (session-read (drop 7312 l)); behind = rw laid (session-behind (drop 7312 l)); short = λ n. absurd (true≢false n) }
 
 -- a text of 64 bytes at most
 pub text-put : (t : Text) → length (t .bytes) ≡ 64 → (l : List ℕ) (count : ℕ) → 64 ≤ length l → count ≡ min (t .length) 64

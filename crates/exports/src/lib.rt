@@ -22,7 +22,7 @@ use through::limit_through;
 use through::reading_through;
 
 // The two values of a limit.
-pub struct Pair(pub f32, pub f32);
+struct Pair(f32, f32);
 
 // A fresh table of n processes.
 #[no_mangle]

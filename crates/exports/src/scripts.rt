@@ -1,5 +1,6 @@
 // A session of the script program between two pieces of its input, in bytes, and what it prints.
 use script::Session;
+use script::least;
 use text::Text;
 use wire::TABLE_BYTES;
 use wire::byte_at;
@@ -8,7 +9,6 @@ use wire::encode;
 use wire::flag_byte;
 use wire::from;
 use wire::put_bytes;
-ghost use Prim.Native.Nat.{min};
 ghost use mathlib.Core.Path.{_≡_};
 ghost use mathlib.Core.Bool.{cond};
 ghost use mathlib.Core.List.{_++_};
@@ -36,13 +36,6 @@ pub fn session_in(state: &[u8]) -> Session
     }
 }
 
-// How many bytes a begun line holds: never more than 201, whatever a session says.
-fn length_byte(length: usize) -> u8
-    ensures { λ r. ⌜ r ≡ min length 201 ⌝ }
-{
-    if length <= 201 { length as u8 } else { 201 }
-}
-
 // Writes the byte form of a session to the front of `out`, or nothing if `out` is too short, and says whether it wrote.
 pub fn put_session(session: Session, out: &mut [u8]) -> bool
     ensures { λ r. ⌜ Keeps (stateOf session) (now (out .entry)) (now (out .exit)) r ⌝ }
@@ -51,7 +44,9 @@ pub fn put_session(session: Session, out: &mut [u8]) -> bool
     // `encode` writes to the front of a buffer, so the table's form is laid out apart
     let mut form = [0u8; TABLE_BYTES];
     encode(table, &mut form);
-    let head = [flag_byte(session.made), length_byte(session.length)];
+    // a begun line never holds more than 201 bytes, whatever a session says
+    let length = least(session.length, 201) as u8;
+    let head = [flag_byte(session.made), length];
     let bytes = session.bytes;
     if out.len() < SESSION_BYTES {
         return false;
@@ -60,13 +55,6 @@ pub fn put_session(session: Session, out: &mut [u8]) -> bool
     put_bytes(out, 2, &bytes);
     put_bytes(out, 203, &form);
     true
-}
-
-// The lesser of two numbers.
-fn least(a: usize, b: usize) -> usize
-    ensures { λ r. ⌜ r ≡ min a b ⌝ }
-{
-    if a <= b { a } else { b }
 }
 
 // Writes a text to the front of `out`, or nothing if `out` has less than 64 bytes, and says how many bytes it wrote.

@@ -3,7 +3,7 @@ use Prim.Native.Nat.{ℕ}
 use mathlib.Core.Path.{_≡_, refl, sym, _∙_, subst, subst⁻¹}
 use mathlib.Core.Bool.{Bool, true, false, _&&_, cond}
 use mathlib.Core.List.{List, [], _∷_, _++_, append-nil, append-assoc, append-cancel-left}
-use mathlib.Core.Option.{some, none}
+use mathlib.Core.Option.{some, none, Option·some-injective, Option·none-ne-some}
 use native.Mathlib.Omega.{arith}
 use lib.Dec.{ltb}
 use borrow.Author.Tests.{ltb-false}
@@ -21,28 +21,27 @@ use Rattle.history.proofs.Invariant.{Good}
 use Rattle.history.proofs.Places.{idle-is}
 use Rattle.history.proofs.GoodTable.{good-after, fresh-each, good-fresh}
 use Rattle.history.proofs.Rest.{at-rest}
-use Rattle.history.proofs.Once.{not-some, some-is}
 use Rattle.history.proofs.Due.{offerOf, openOf, listsOf, Agrees, Kept}
 use Rattle.history.proofs.EveryCall.{followed}
 
 -- the claim of demand 3 for one list of calls, from a table t and a book b
-pub record ClaimFrom (t : ProcessTable) (b : History) (calls : List Call) : Type 0 where
-  pub book : History
-  pub never-stuck : bookAfterAll t b calls ≡ some book
-  pub run : book .run ≡ b .run ++ commitsOf t calls
-  pub joins : EachCall EntryJoins t b calls
-  pub once : AllDiffer (idsOf (book .run))
-  pub tickets : EachCall TicketIsNext t b calls
-  pub collections : EachCall OutcomeWasDue t b calls
-  pub opens : (p : ℕ) → openOffer (tableAfterAll t calls) p ≡ book .opened p
-  pub rests : Quiescent (tableAfterAll t calls) → (p q : ℕ) (o r : Transaction) → (p ≡ q → ⊥)
+record ClaimFrom (t : ProcessTable) (b : History) (calls : List Call) : Type 0 where
+  book : History
+  never-stuck : bookAfterAll t b calls ≡ some book
+  run : book .run ≡ b .run ++ commitsOf t calls
+  joins : EachCall EntryJoins t b calls
+  once : AllDiffer (idsOf (book .run))
+  tickets : EachCall TicketIsNext t b calls
+  collections : EachCall OutcomeWasDue t b calls
+  opens : (p : ℕ) → openOffer (tableAfterAll t calls) p ≡ book .opened p
+  rests : Quiescent (tableAfterAll t calls) → (p q : ℕ) (o r : Transaction) → (p ≡ q → ⊥)
       → openOffer (tableAfterAll t calls) p ≡ some o → openOffer (tableAfterAll t calls) q ≡ some r → offersMatch p (o .guards) q (r .guards) ≡ false
 
 -- a fact of the first call and of the others, which go on from the book that the first one leaves
 each-call : (Fact : History → Call → Said → History → Type 0) (t : ProcessTable) (b : History) (c : Call) (cs : List Call) (after : History)
     → enter b c (seen (saidTo t c)) ≡ some after → Fact b c (saidTo t c) after → EachCall Fact (tableAfter t c) after cs → EachCall Fact t b (c ∷ cs)
 unfolding EachCall
-each-call Fact t b c cs after e first rest other f = subst (λ (h : History). Fact b c (saidTo t c) h × EachCall Fact (tableAfter t c) h cs) (some-is after other (sym e ∙ f)) (first, rest)
+each-call Fact t b c cs after e first rest other f = subst (λ (h : History). Fact b c (saidTo t c) h × EachCall Fact (tableAfter t c) h cs) (Option·some-injective after other (sym e ∙ f)) (first, rest)
 
 -- on a good table only processes below n have an open offer
 open-offer : (t : ProcessTable) → Good t → (p : ℕ) → openOffer t p ≡ openOf (process t p)
@@ -54,7 +53,7 @@ open-offer t good p = at (ltb p (t .n)) refl (isIdle (process t p .place)) refl
     at false e true f = subst⁻¹ (λ (pl : Place). none ≡ cond (openAt pl (process t p .accepting)) (some (offerOf (process t p))) none) (idle-is (process t p .place) f) refl
     at false e false f = absurd (omega (arith, ltb-false p (t .n) e, good .inv .alone p .there f))
 
-pub claim-from : (t : ProcessTable) (b : History) → Good t → Kept t b → (calls : List Call) → ClaimFrom t b calls
+claim-from : (t : ProcessTable) (b : History) → Good t → Kept t b → (calls : List Call) → ClaimFrom t b calls
 unfolding bookAfterAll commitsOf EachCall tableAfterAll
 claim-from t b good k [] = record {
   book = b;
@@ -86,7 +85,7 @@ fresh-kept : (n : ℕ) → Kept (freshTable n) emptyHistory
 fresh-kept n = record {
   counts = refl;
   each = λ p. fresh-each (Agrees (listsOf (process (freshTable n))) emptyHistory p) (record { offer = refl; at = refl; told = tt }) (record { offer = refl; at = refl; told = tt }) n p;
-  once = record { differ = tt; unused = λ t l. tt; below = λ p o e. not-some o e; unmet = λ p o e. tt; apart = λ p q o r ne e. not-some o e };
+  once = record { differ = tt; unused = λ t l. tt; below = λ p o e. absurd (Option·none-ne-some o e); unmet = λ p o e. tt; apart = λ p q o r ne e. absurd (Option·none-ne-some o e) };
 }
 
 pub demand3 : Demand3

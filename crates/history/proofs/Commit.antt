@@ -22,7 +22,7 @@ use Rattle.rendezvous.specs.Table.{process}
 use Rattle.process.specs.Rules.{Both, atPlace, withAccepting, try, ruleAt, rule, namedBy}
 use Rattle.rendezvous.specs.Calls.{applied, effectOn, stepped}
 use Rattle.history.specs.Run.{Step}
-use Rattle.history.specs.Book.{Transaction, Rendezvous, History, messageOf, dueMessage, withRendezvous, committing, enter}
+use Rattle.history.specs.Book.{Transaction, Rendezvous, History, sendersMessage, dueMessage, withRendezvous, committing, enter}
 use Rattle.history.specs.Demand3.{Joins}
 use Rattle.history.proofs.View.{View}
 use Rattle.history.proofs.Invariant.{Shows, Good}
@@ -35,11 +35,11 @@ use Rattle.history.proofs.Due.{offerOf, listsOf, DueAt, Agrees, KeptOf,
 use Rattle.history.proofs.Followed.{Followed, stays, moves, scans, scan-followed, absorbs, signals}
 
 -- the book's messages are rule 9's
-mine-message : (g h : Action) → dueMessage g (messageOf g h) ≡ receivedBy g h
+mine-message : (g h : Action) → dueMessage g (sendersMessage g h) ≡ receivedBy g h
 mine-message Receive h = refl
 mine-message (Send m) h = refl
 
-theirs-message : (g h : Action) → opposite g h ≡ true → dueMessage h (messageOf g h) ≡ sentBy g
+theirs-message : (g h : Action) → opposite g h ≡ true → dueMessage h (sendersMessage g h) ≡ sentBy g
 theirs-message Receive Receive e = refl
 theirs-message Receive (Send m) e = refl
 theirs-message (Send m) Receive e = refl

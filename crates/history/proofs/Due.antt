@@ -108,7 +108,7 @@ pub lists-same : (v : View) (p : ℕ) (x : Process) → ownList x ≡ ownList (v
 lists-same v p x e = fun-ext (entered-each (λ q y. ownList y ≡ ownList (v q)) v p x e (λ q _. refl))
 
 -- two new records, with the lists of the old
-pub upd-two : (F : ℕ → Process → Type 0) (v : View) (p q : ℕ) (x y : Process) → F p x → F q y → ((r : ℕ) → (r ≡ p → ⊥) → (r ≡ q → ⊥) → F r (v r)) → (r : ℕ) → F r (upd (upd v q y) p x r)
+upd-two : (F : ℕ → Process → Type 0) (v : View) (p q : ℕ) (x y : Process) → F p x → F q y → ((r : ℕ) → (r ≡ p → ⊥) → (r ≡ q → ⊥) → F r (v r)) → (r : ℕ) → F r (upd (upd v q y) p x r)
 upd-two F v p q x y a c d = entered-each F (upd v q y) p x a (λ r rp. entered-each (λ r z. (r ≡ p → ⊥) → F r z) v q y (λ _. c) (λ r rq rp. d r rp rq) r rp)
 
 pub each-two : (v : View) (b : History) (p q : ℕ) (x y : Process) → ownList x ≡ ownList (v p) → ownList y ≡ ownList (v q)

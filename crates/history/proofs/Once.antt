@@ -3,19 +3,12 @@ use Prim.Native.Nat.{ℕ, suc, _≤_, _<_}
 use mathlib.Core.Path.{_≡_, refl, sym, _∙_, ap}
 use mathlib.Core.List.{List, [], _∷_, _++_}
 use mathlib.Core.Logic.{_⊎_, inl, inr, ⊎-elim}
-use mathlib.Core.Option.{Option, some, none}
+use mathlib.Core.Option.{Option, some, none, Option·some-injective, Option·none-ne-some}
 use native.Mathlib.Omega.{arith}
 use Rattle.alternative.specs.declared.Guard.{Guard}
 use Rattle.history.specs.Book.{Transaction, Rendezvous, enteredFor}
 use Rattle.history.specs.Demand3.{idsOf, NotIn, AllDiffer}
 use Rattle.history.proofs.View.{entered-each}
-
--- what is there is not nothing, and is what it is
-pub not-some : {A B : Type 0} (a : A) → _≡_ {A = Option A} none (some a) → B
-not-some a e = let z : _≡_ {A = ℕ} 0 1 = cc in absurd (omega arith)
-
-pub some-is : {A : Type 0} (a c : A) → some a ≡ some c → a ≡ c
-some-is a c e = cc
 
 -- two tickets more at a list's end
 module _ (t u : ℕ) where
@@ -41,7 +34,7 @@ pub record Once (next : ℕ) (opened : ℕ → Option Transaction) (run : List R
 
 -- what is open after p's offer closed was open, and is another's
 closed : (p : ℕ) (opened : ℕ → Option Transaction) (q : ℕ) (o : Transaction) → enteredFor p none opened q ≡ some o → (opened q ≡ some o) × (q ≡ p → ⊥)
-closed p opened q o = entered-each (λ q x. x ≡ some o → (opened q ≡ some o) × (q ≡ p → ⊥)) opened p none (not-some o) (λ q ne e. (e, ne)) q
+closed p opened q o = entered-each (λ q x. x ≡ some o → (opened q ≡ some o) × (q ≡ p → ⊥)) opened p none (λ e. absurd (Option·none-ne-some o e)) (λ q ne e. (e, ne)) q
 
 module _ {next : ℕ} {opened : ℕ → Option Transaction} {run : List Rendezvous} (k : Once next opened run) where
   pub once-offers : (p : ℕ) (gs : List Guard) → Once (suc next) (enteredFor p (some (record { id = next; guards = gs })) opened) run
@@ -58,7 +51,7 @@ module _ {next : ℕ} {opened : ℕ → Option Transaction} {run : List Rendezvo
     where
       newer : (q : ℕ) (o : Transaction) → enteredFor p (some (record { id = next; guards = gs })) opened q ≡ some o → ((q ≡ p) × (o .id ≡ next)) ⊎ (opened q ≡ some o)
       newer q o = entered-each (λ q x. x ≡ some o → ((q ≡ p) × (o .id ≡ next)) ⊎ (opened q ≡ some o)) opened p _
-          (λ e. inl (refl, ap (λ (t : Transaction). t .id) (sym (some-is _ o e)))) (λ q _ e. inr e) q
+          (λ e. inl (refl, ap (λ (t : Transaction). t .id) (sym (Option·some-injective _ o e)))) (λ q _ e. inr e) q
 
   -- the offers o of p and s of q close, and their tickets have met in r
   pub once-commits : (p q : ℕ) (o s : Transaction) (r : Rendezvous) → (p ≡ q → ⊥) → opened p ≡ some o → opened q ≡ some s → r .idP ≡ o .id → r .idQ ≡ s .id

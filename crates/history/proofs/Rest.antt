@@ -2,7 +2,7 @@
 use Prim.Native.Nat.{ℕ, zero, suc, _+_, _^_, _≤_, _<_}
 use mathlib.Core.Path.{_≡_, refl, sym, _∙_, subst}
 use mathlib.Core.Bool.{Bool, true, false, cond, false≢true, true≢false}
-use mathlib.Core.Option.{some, none}
+use mathlib.Core.Option.{some, none, Option·none-ne-some}
 use native.Mathlib.Omega.{arith}
 use lib.Dec.{ltb}
 use lib.Pow.{pow-pos}
@@ -24,7 +24,7 @@ use Rattle.alternative.proofs.Tests.{and-parts}
 use Rattle.history.specs.Book.{Transaction}
 use Rattle.history.specs.Demand3.{openOffer}
 use Rattle.history.proofs.View.{split}
-use Rattle.history.proofs.Invariant.{Past, Good}
+use Rattle.history.proofs.Invariant.{Past, QuietState, WaitingState, Good}
 use Rattle.history.proofs.Matches.{no-match}
 use Rattle.history.proofs.Facts.{at-names}
 
@@ -69,11 +69,11 @@ module _ (p : ℕ) (x : Process) (q : ℕ) (y : Process) where
   scans Posting w c = absurd (true≢false c)
   scans Opening w c = absurd (true≢false c)
   scans Showing w c = absurd (true≢false c)
-  scans Idle w c = let z : _≡_ {A = ℕ} 0 1 = cc in absurd (omega arith)
-  scans Entering w c = let z : _≡_ {A = ℕ} 0 1 = cc in absurd (omega arith)
-  scans Asleep w c = let z : _≡_ {A = ℕ} 0 1 = cc in absurd (omega arith)
-  scans Waiting w c = let z : _≡_ {A = ℕ} 0 1 = cc in absurd (omega arith)
-  scans (Met i m) w c = let z : _≡_ {A = ℕ} 0 1 = cc in absurd (omega arith)
+  scans Idle w c = absurd (subst QuietState w tt)
+  scans Entering w c = absurd (subst QuietState w tt)
+  scans Asleep w c = absurd (subst QuietState w tt)
+  scans Waiting w c = absurd (subst WaitingState w tt)
+  scans (Met i m) w c = absurd (subst QuietState w tt)
 
   -- one with an open offer is at A, or past all its guards
   rests-past : (pl : Place) → changes (ruleAt p x q y pl) ≡ false → openAt pl (x .accepting) ≡ true → ((i : ℕ) → pl ≡ Scanning i → ⊥) → (k : ℕ) → Past pl (x .accepting) k
@@ -121,7 +121,7 @@ module _ (t : ProcessTable) (good : Good t) (quiescent : Quiescent t) where
           let a = and-parts (ltb p (t .n)) (isOpen (process t p)) f in
           let h = ltb-true p (t .n) (a .0) in
           (rests-past p _ _ _ (process t p .place) (still p h _ refl) (a .1) (λ i s. none-scans (t .next .0) p i h s (omega arith)), cc)
-      at false f e = let z : _≡_ {A = ℕ} 0 1 = cc in absurd (omega arith)
+      at false f e = absurd (Option·none-ne-some o e)
 
   pub at-rest : (p q : ℕ) (o r : Transaction) → (p ≡ q → ⊥) → openOffer t p ≡ some o → openOffer t q ≡ some r → offersMatch p (o .guards) q (r .guards) ≡ false
   at-rest p q o r ne e f =

@@ -60,15 +60,15 @@ abbrev pub enteredFor : {A : Type 0} → ℕ → A → (ℕ → A) → ℕ → A
 enteredFor p a old = λ q. cond (eqb q p) a (old q)
 
 -- "Accepted offer by p, who must have neither an open offer nor a due outcome: it becomes p's open offer under the next ticket, which then grows by 1."
-abbrev pub offering : History → ℕ → List Guard → Option Transaction → Option Due → Option History
+abbrev offering : History → ℕ → List Guard → Option Transaction → Option Due → Option History
 offering b p gs none none = some (record { next = suc (b .next); opened = enteredFor p (some (record { id = b .next; guards = gs })) (b .opened); due = b .due; run = b .run })
 offering b p gs none (some d) = none
 offering b p gs (some o) d = none
 
 -- "the sending guard's message": of the two guards' actions
-abbrev pub messageOf : Action → Action → Message
-messageOf (Send m) other = m
-messageOf Receive other = sentBy other
+abbrev pub sendersMessage : Action → Action → Message
+sendersMessage (Send m) other = m
+sendersMessage Receive other = sentBy other
 
 -- "that message, or nothing for the message if guard i sends"
 abbrev pub dueMessage : Action → Message → Message
@@ -79,7 +79,7 @@ dueMessage Receive m = m
 unfoldable pub withRendezvous : History → ℕ → ℕ → Transaction → Guard → ℕ → Transaction → Guard → History
 withRendezvous b p i mine g j theirs h =
     let q = g .partner in
-    let m = messageOf (g .action) (h .action) in
+    let m = sendersMessage (g .action) (h .action) in
     record {
       next = b .next;
       opened = enteredFor p none (enteredFor q none (b .opened));
@@ -89,7 +89,7 @@ withRendezvous b p i mine g j theirs h =
     }
 
 -- "guard i of p's open offer names q, and j is the index that rule 7's search keeps, with q's open list as the posted one"
-abbrev pub foundIndex : Found → Option ℕ
+abbrev foundIndex : Found → Option ℕ
 foundIndex (At j) = some j
 foundIndex Missing = none
 
@@ -109,7 +109,7 @@ stepping b p true none = none
 stepping b p false index = some b
 
 -- "Accepted collection from p: p's due outcome is given and removed."
-abbrev pub collecting : History → ℕ → Option Due → Option History
+abbrev collecting : History → ℕ → Option Due → Option History
 collecting b p none = none
 collecting b p (some d) = some (record { next = b .next; opened = b .opened; due = enteredFor p none (b .due); run = b .run })
 

@@ -30,13 +30,13 @@ pub record Case : Type 0 where
   pub commands : List Command
   pub says : List Said
 
-abbrev pub offers : ℕ → List Guard → Command
+abbrev offers : ℕ → List Guard → Command
 offers p gs = Do (Offer p gs)
 
-abbrev pub steps : ℕ → Command
+abbrev steps : ℕ → Command
 steps p = Do (Step p)
 
-abbrev pub collects : ℕ → Command
+abbrev collects : ℕ → Command
 collects p = Do (Collect p)
 
 -- guards as the script writes them: q?, q! with the bits of a reading, and -q?
@@ -49,33 +49,33 @@ reading bits = Reading (ofBits binary32 bits)
 abbrev pub send : ℕ → ℕ → Guard
 send q bits = record { enabled = true; partner = q; action = Send (reading bits) }
 
-abbrev pub disabled : ℕ → Guard
+abbrev disabled : ℕ → Guard
 disabled q = record { enabled = false; partner = q; action = Receive }
 
 -- a fresh table of two processes, but for its next ticket
-abbrev pub withNext : ℕ → ProcessTable
+abbrev withNext : ℕ → ProcessTable
 withNext next = record { n = 2; next = record { 0 = next }; processes = replicate mostProcesses freshProcess }
 
 -- a place by its letter, with the guard index at A, T and C
-abbrev pub at : Char → Option ℕ → Said
+abbrev at : Char → Option ℕ → Said
 at letter index = place (code letter) index
 
 -- process 0 offers a reading to process 1, which takes it: both collect
-abbrev pub handOver : ℕ → List Command
+abbrev handOver : ℕ → List Command
 handOver bits =
     New 2 ∷ offers 0 (send 1 bits ∷ []) ∷ offers 1 (receive 0 ∷ [])
     ∷ steps 0 ∷ steps 0 ∷ steps 0 ∷ steps 0 ∷ steps 0
     ∷ steps 1 ∷ steps 1 ∷ steps 1 ∷ steps 1 ∷ steps 0
     ∷ collects 1 ∷ collects 0 ∷ Movers ∷ []
 
-abbrev pub handedOver : ℕ → List Said
+abbrev handedOver : ℕ → List Said
 handedOver bits =
     made ∷ ticket 0 ∷ ticket 1
     ∷ at "A" (some 0) ∷ at "P" none ∷ at "O" none ∷ at "H" none ∷ at "W" none
     ∷ at "A" (some 0) ∷ at "T" (some 0) ∷ at "C" (some 0) ∷ at "M" none ∷ at "M" none
     ∷ outcome 0 0 (reading bits) ∷ outcome 0 1 Nothing ∷ movers 0 ∷ []
 
-abbrev pub case : List Command → List Said → Case
+abbrev case : List Command → List Said → Case
 case commands says = record { start = freshTable 0; commands = commands; says = says }
 
 unfoldable pub starred : List Case

@@ -6,7 +6,7 @@ use Rattle.rendezvous.specs.Calls.{Quiescent}
 use Rattle.rendezvous.specs.Numbers.{Said, ticket, outcome, refusal}
 use Rattle.history.specs.Types.{ℕ, _≤_, _≡_, true, false, cond, List, [], _∷_, _++_, _⊎_, Option, some, none, getElem?, Guard, Place, Idle, Entering, Scanning, Trying, Committed, Posting, Opening, Showing, Asleep, Waiting, Met, ProcessTable, Answer, Made, Offered, Moved, Unchanged, Collected, Runnable}
 use Rattle.history.specs.Run.{Call, Offer, Step, Collect, replyTo, saidTo, tableAfter, tableAfterAll}
-use Rattle.history.specs.Book.{Transaction, Due, Rendezvous, History, emptyHistory, seen, _>>=_, messageOf, enter}
+use Rattle.history.specs.Book.{Transaction, Due, Rendezvous, History, emptyHistory, seen, _>>=_, sendersMessage, enter}
 
 -- the book after a list of calls from table t and book b, or none if it was stuck
 unfoldable pub bookAfterAll : ProcessTable → History → List Call → Option History
@@ -22,7 +22,7 @@ commitAt t p (Committed i j) =
     let x = process t p in
     let g = ownGuard x i in
     let y = process t (g .partner) in
-    record { idP = x .transaction .0; idQ = y .transaction .0; p = p; i = i; q = g .partner; j = j; message = messageOf (g .action) (postedGuard y j .action) } ∷ []
+    record { idP = x .transaction .0; idQ = y .transaction .0; p = p; i = i; q = g .partner; j = j; message = sendersMessage (g .action) (postedGuard y j .action) } ∷ []
 commitAt t p Idle = []
 commitAt t p Entering = []
 commitAt t p (Scanning i) = []

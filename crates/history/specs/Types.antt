@@ -1,4 +1,4 @@
--- The names that the definitions here use, gathered: the libraries' and the types that the code declares. No definition of its own.
+-- To be believed as names only, gathered for the definitions here: the libraries' and the types that the code declares. No definition of its own.
 pub use Rattle.alternative.specs.Types.{ℕ, suc, _≤_, Char, code, _≡_, Bool, true, false, cond, List, [], _∷_, _++_, _⊎_, Option, some, none, getElem?, replicate, eqb}
 pub use Rattle.alternative.specs.declared.{Message.Message, Action.Action, Guard.Guard, Found.Found}
 pub use Rattle.alternative.specs.declared.Message.the-variants.{Nothing, Reading}

@@ -1,11 +1,11 @@
 // A list of guards lent as a slice, copied into a list by value: the one place where a lent slice of guards is read.
+use alternative::Guard;
+use alternative::GuardList;
+use alternative::blank_guard;
 ghost use mathlib.Core.Path.{_≡_};
 ghost use mathlib.Core.List.{[], _∷_};
 ghost use lib.ListN.{getD};
 ghost use Rattle.alternative.specs.Guards.{lent};
-use alternative::Guard;
-use alternative::GuardList;
-use alternative::blank_guard;
 
 // Guard i of a lent list, or `past` past its end.
 fn get_or(guards: &[Guard], i: usize, past: Guard) -> Guard
@@ -35,7 +35,7 @@ fn packed(
     }
 }
 
-// The lent list by value: how many guards it has, and its first eight, blank past its end. The one function over a lent slice that all else goes through.
+// The lent list by value: how many guards it has, and its first eight, blank past its end.
 pub fn copied(guards: &[Guard]) -> GuardList
     ensures { λ r. ⌜ r ≡ lent (now (guards .entry)) ⌝ }
 {

@@ -1,5 +1,6 @@
 -- A rule that changes anything changes the place of the process that steps.
 use Prim.Native.Nat.{ℕ, suc, _≤_}
+use Prim.Native.Char.{code}
 use mathlib.Core.Path.{_≡_, refl, sym, ap}
 use mathlib.Core.Bool.{Bool, true, false, cond}
 use mathlib.Core.List.{List, [], _∷_}
@@ -8,22 +9,8 @@ use lib.ListN.{drop}
 use lib.Dec.{ltb}
 use Rattle.alternative.specs.Guards.{firstFrom, firstMatch, nextEnabled}
 use Rattle.process.specs.Types.{Guard, Found, At, Missing, Signal, Absent, Present, Place, Idle, Entering, Scanning, Trying, Committed, Posting, Opening, Showing, Asleep, Waiting, Met, State, Running, Alt, Sleeping, Process}
-use Rattle.process.specs.Process.{stateOf, ownList, postedList, ownGuard}
+use Rattle.process.specs.Process.{letterOf, stateOf, ownList, postedList, ownGuard}
 use Rattle.process.specs.Rules.{Effect, Neither, Own, Both, scanAt, scanFrom, scan, try, handOver, absorb, ruleAt, rule}
-
--- the kind of a place, to tell two apart
-kind : Place → ℕ
-kind Idle = 0
-kind Entering = 1
-kind (Scanning i) = 2
-kind (Trying i) = 3
-kind (Committed i j) = 4
-kind Posting = 5
-kind Opening = 6
-kind Showing = 7
-kind Asleep = 8
-kind Waiting = 9
-kind (Met i m) = 10
 
 abbrev pub Differs : Place → Effect → Type 0
 Differs place Neither = Unit {0}
@@ -49,43 +36,38 @@ from-differs x k place h g = go (nextEnabled (ownList x) k) refl
     go Missing e = g
 
 after-differs : (x : Process) (i : ℕ) → Differs (Scanning i) (scanFrom x (suc i))
-unfolding kind
-after-differs x i = from-differs x (suc i) (Scanning i) (λ j h e. let z : j ≡ i = cc in omega arith) (λ e. let z : _≡_ {A = ℕ} 5 2 = ap kind e in omega arith)
+after-differs x i = from-differs x (suc i) (Scanning i) (λ j h e. let z : j ≡ i = cc in omega arith) (λ e. let z : code "P" ≡ code "A" = ap letterOf e in omega arith)
 
-other-differs : (x : Process) (k : ℕ) (place : Place) → (kind place ≡ 2 → ⊥) → (kind place ≡ 5 → ⊥) → Differs place (scanFrom x k)
-unfolding kind
-other-differs x k place h g = from-differs x k place (λ i _ e. h (sym (ap kind e))) (λ e. g (sym (ap kind e)))
+other-differs : (x : Process) (k : ℕ) (place : Place) → (letterOf place ≡ code "A" → ⊥) → (letterOf place ≡ code "P" → ⊥) → Differs place (scanFrom x k)
+other-differs x k place h g = from-differs x k place (λ i _ e. h (sym (ap letterOf e))) (λ e. g (sym (ap letterOf e)))
 
 scan-differs : (x : Process) (i : ℕ) (s : State) (older : Bool) → Differs (Scanning i) (scan x i s older)
-unfolding kind
 scan-differs x i Running older = after-differs x i
 scan-differs x i Sleeping older = after-differs x i
-scan-differs x i State.Waiting older = λ e. let z : _≡_ {A = ℕ} 3 2 = ap kind e in omega arith
-scan-differs x i Alt true = λ e. let z : _≡_ {A = ℕ} 8 2 = ap kind e in omega arith
+scan-differs x i State.Waiting older = λ e. let z : code "T" ≡ code "A" = ap letterOf e in omega arith
+scan-differs x i Alt true = λ e. let z : code "S" ≡ code "A" = ap letterOf e in omega arith
 scan-differs x i Alt false = tt
 
 try-differs : (x : Process) (i : ℕ) (y : Process) (accepting : Bool) (found : Found) → Differs (Trying i) (try x i y accepting found)
-unfolding kind
-try-differs x i y true (At j) = λ e. let z : _≡_ {A = ℕ} 4 3 = ap kind e in omega arith
+try-differs x i y true (At j) = λ e. let z : code "C" ≡ code "T" = ap letterOf e in omega arith
 try-differs x i y true Missing = other-differs x (suc i) (Trying i) (omega arith) (omega arith)
 try-differs x i y false (At j) = other-differs x (suc i) (Trying i) (omega arith) (omega arith)
 try-differs x i y false Missing = other-differs x (suc i) (Trying i) (omega arith) (omega arith)
 
 absorb-differs : (x : Process) (s : Signal) → Differs Waiting (absorb x s)
-unfolding kind
-absorb-differs x (Present j m) = λ e. let z : _≡_ {A = ℕ} 10 9 = ap kind e in omega arith
+absorb-differs x (Present j m) = λ e. let z : code "M" ≡ code "W" = ap letterOf e in omega arith
 absorb-differs x Absent = tt
 
 at-differs : (p : ℕ) (x : Process) (q : ℕ) (y : Process) (place : Place) → Differs place (ruleAt p x q y place)
-unfolding kind handOver
+unfolding handOver
 at-differs p x q y Entering = other-differs x 0 Entering (omega arith) (omega arith)
 at-differs p x q y Asleep = other-differs x 0 Asleep (omega arith) (omega arith)
 at-differs p x q y (Scanning i) = scan-differs x i (stateOf (y .place)) (ltb (y .transaction .0) (x .transaction .0))
 at-differs p x q y (Trying i) = try-differs x i y (y .accepting) (firstMatch p (ownGuard x i) q (postedList y))
-at-differs p x q y (Committed i j) = λ e. let z : _≡_ {A = ℕ} 10 4 = ap kind e in omega arith
-at-differs p x q y Posting = λ e. let z : _≡_ {A = ℕ} 6 5 = ap kind e in omega arith
-at-differs p x q y Opening = λ e. let z : _≡_ {A = ℕ} 7 6 = ap kind e in omega arith
-at-differs p x q y Showing = λ e. let z : _≡_ {A = ℕ} 9 7 = ap kind e in omega arith
+at-differs p x q y (Committed i j) = λ e. let z : code "M" ≡ code "C" = ap letterOf e in omega arith
+at-differs p x q y Posting = λ e. let z : code "O" ≡ code "P" = ap letterOf e in omega arith
+at-differs p x q y Opening = λ e. let z : code "H" ≡ code "O" = ap letterOf e in omega arith
+at-differs p x q y Showing = λ e. let z : code "W" ≡ code "H" = ap letterOf e in omega arith
 at-differs p x q y Waiting = absorb-differs x (x .signal)
 at-differs p x q y Idle = tt
 at-differs p x q y (Met i m) = tt

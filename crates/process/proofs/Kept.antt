@@ -20,31 +20,29 @@ Kept y Neither = Unit {0}
 Kept y (Own x) = Unit {0}
 Kept y (Both x y′) = changed y (y .place) (y′ .signal) (y′ .accepting) ≡ y′
 
-from-kept : (x : Process) (k : ℕ) (y : Process) → Kept y (scanFrom x k)
-unfolding scanFrom
-from-kept x k y = tt
-
 scan-kept : (x : Process) (i : ℕ) (y : Process) (s : State) (older : Bool) → Kept y (scan x i s older)
-scan-kept x i y Running older = from-kept x _ y
-scan-kept x i y Sleeping older = from-kept x _ y
+unfolding scanFrom
+scan-kept x i y Running older = tt
+scan-kept x i y Sleeping older = tt
 scan-kept x i y State.Waiting older = tt
 scan-kept x i y Alt true = tt
 scan-kept x i y Alt false = tt
 
 try-kept : (x : Process) (i : ℕ) (y : Process) (accepting : Bool) (found : Found) → Kept y (try x i y accepting found)
+unfolding scanFrom
 try-kept x i y true (At j) = refl
-try-kept x i y true Missing = from-kept x _ y
-try-kept x i y false (At j) = from-kept x _ y
-try-kept x i y false Missing = from-kept x _ y
+try-kept x i y true Missing = tt
+try-kept x i y false (At j) = tt
+try-kept x i y false Missing = tt
 
 absorb-kept : (x y : Process) (s : Signal) → Kept y (absorb x s)
 absorb-kept x y (Present j m) = tt
 absorb-kept x y Absent = tt
 
 at-kept : (p : ℕ) (x : Process) (q : ℕ) (y : Process) (place : Place) → Kept y (ruleAt p x q y place)
-unfolding handOver
-at-kept p x q y Entering = from-kept x 0 y
-at-kept p x q y Asleep = from-kept x 0 y
+unfolding scanFrom handOver
+at-kept p x q y Entering = tt
+at-kept p x q y Asleep = tt
 at-kept p x q y (Scanning i) = scan-kept x i y (stateOf (y .place)) (ltb (y .transaction .0) (x .transaction .0))
 at-kept p x q y (Trying i) = try-kept x i y (y .accepting) (firstMatch p (ownGuard x i) q (postedList y))
 at-kept p x q y (Committed i j) = refl

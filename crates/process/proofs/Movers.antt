@@ -1,5 +1,5 @@
 -- Which rules change anything: exactly those other than 6, 14 and 15.
-use Prim.Native.Nat.{ℕ, suc}
+use Prim.Native.Nat.{ℕ}
 use mathlib.Core.Path.{_≡_, refl, sym, ap, _∙_}
 use mathlib.Core.Bool.{Bool, true, false, not, _||_}
 use lib.Dec.{eqb, ltb, leb}
@@ -11,24 +11,24 @@ use Rattle.process.specs.Rules.{scanFrom, scan, try, handOver, absorb, r
 use Rattle.process.specs.Private.{heldBy, isPresent, changesAt}
 
 -- document 01's number of the rule that applies
-abbrev pub scanNumber : State → Bool → ℕ
+abbrev scanNumber : State → Bool → ℕ
 scanNumber Running older = 3
 scanNumber Sleeping older = 3
 scanNumber State.Waiting older = 4
 scanNumber Alt true = 5
 scanNumber Alt false = 6
 
-abbrev pub tryNumber : Bool → Found → ℕ
+abbrev tryNumber : Bool → Found → ℕ
 tryNumber true (At j) = 7
 tryNumber true Missing = 8
 tryNumber false (At j) = 8
 tryNumber false Missing = 8
 
-abbrev pub absorbNumber : Signal → ℕ
+abbrev absorbNumber : Signal → ℕ
 absorbNumber (Present j m) = 13
 absorbNumber Absent = 14
 
-abbrev pub numberAt : ℕ → Process → ℕ → Process → Place → ℕ
+abbrev numberAt : ℕ → Process → ℕ → Process → Place → ℕ
 numberAt p x q y Entering = 1
 numberAt p x q y Asleep = 2
 numberAt p x q y (Scanning i) = scanNumber (stateOf (y .place)) (ltb (y .transaction .0) (x .transaction .0))
@@ -44,22 +44,20 @@ numberAt p x q y (Met i m) = 15
 abbrev Moving : ℕ → Bool
 Moving number = not (eqb number 6 || (eqb number 14 || eqb number 15))
 
-from-changes : (x : Process) (k : ℕ) → changes (scanFrom x k) ≡ true
-unfolding scanFrom
-from-changes x k = refl
-
 scan-number : (x : Process) (i : ℕ) (s : State) (older : Bool) → changes (scan x i s older) ≡ Moving (scanNumber s older)
-scan-number x i Running older = from-changes x (suc i)
-scan-number x i Sleeping older = from-changes x (suc i)
+unfolding scanFrom
+scan-number x i Running older = refl
+scan-number x i Sleeping older = refl
 scan-number x i State.Waiting older = refl
 scan-number x i Alt true = refl
 scan-number x i Alt false = refl
 
 try-number : (x : Process) (i : ℕ) (y : Process) (accepting : Bool) (found : Found) → changes (try x i y accepting found) ≡ Moving (tryNumber accepting found)
+unfolding scanFrom
 try-number x i y true (At j) = refl
-try-number x i y true Missing = from-changes x (suc i)
-try-number x i y false (At j) = from-changes x (suc i)
-try-number x i y false Missing = from-changes x (suc i)
+try-number x i y true Missing = refl
+try-number x i y false (At j) = refl
+try-number x i y false Missing = refl
 
 absorb-number : (x : Process) (s : Signal) → changes (absorb x s) ≡ Moving (absorbNumber s)
 absorb-number x (Present j m) = refl
@@ -67,9 +65,9 @@ absorb-number x Absent = refl
 
 -- the law: by document 01's numbers
 pub moving-rules : (p : ℕ) (x : Process) (q : ℕ) (y : Process) (place : Place) → changes (ruleAt p x q y place) ≡ Moving (numberAt p x q y place)
-unfolding handOver
-moving-rules p x q y Entering = from-changes x 0
-moving-rules p x q y Asleep = from-changes x 0
+unfolding scanFrom handOver
+moving-rules p x q y Entering = refl
+moving-rules p x q y Asleep = refl
 moving-rules p x q y (Scanning i) = scan-number x i (stateOf (y .place)) (ltb (y .transaction .0) (x .transaction .0))
 moving-rules p x q y (Trying i) = try-number x i y (y .accepting) (firstMatch p (ownGuard x i) q (postedList y))
 moving-rules p x q y (Committed i j) = refl
@@ -82,8 +80,9 @@ moving-rules p x q y (Met i m) = refl
 
 -- the code's test of rules 3 to 6: what is not smaller is at least as great
 held-scan : (x : Process) (i : ℕ) (s : State) (a b : ℕ) → not (heldBy s (leb a b)) ≡ changes (scan x i s (ltb b a))
-held-scan x i Running a b = sym (from-changes x (suc i))
-held-scan x i Sleeping a b = sym (from-changes x (suc i))
+unfolding scanFrom
+held-scan x i Running a b = refl
+held-scan x i Sleeping a b = refl
 held-scan x i State.Waiting a b = refl
 held-scan x i Alt a b = go (ltb b a) refl
   where
@@ -95,18 +94,20 @@ present-absorb : (x : Process) (s : Signal) → isPresent s ≡ changes (absorb 
 present-absorb x (Present j m) = refl
 present-absorb x Absent = refl
 
-try-changes : (x : Process) (i : ℕ) (y : Process) (accepting : Bool) (found : Found) → true ≡ changes (try x i y accepting found)
+-- rules 7 and 8 always change something
+try-changes : (x : Process) (i : ℕ) (y : Process) (accepting : Bool) (found : Found) → changes (try x i y accepting found) ≡ true
+unfolding scanFrom
 try-changes x i y true (At j) = refl
-try-changes x i y true Missing = sym (from-changes x (suc i))
-try-changes x i y false (At j) = sym (from-changes x (suc i))
-try-changes x i y false Missing = sym (from-changes x (suc i))
+try-changes x i y true Missing = refl
+try-changes x i y false (At j) = refl
+try-changes x i y false Missing = refl
 
 changes-at : (p : ℕ) (x : Process) (q : ℕ) (y : Process) (place : Place) → changesAt x y place ≡ changes (ruleAt p x q y place)
-unfolding handOver
-changes-at p x q y Entering = sym (from-changes x 0)
-changes-at p x q y Asleep = sym (from-changes x 0)
+unfolding scanFrom handOver
+changes-at p x q y Entering = refl
+changes-at p x q y Asleep = refl
 changes-at p x q y (Scanning i) = held-scan x i (stateOf (y .place)) (x .transaction .0) (y .transaction .0)
-changes-at p x q y (Trying i) = try-changes x i y (y .accepting) (firstMatch p (ownGuard x i) q (postedList y))
+changes-at p x q y (Trying i) = sym (try-changes x i y (y .accepting) (firstMatch p (ownGuard x i) q (postedList y)))
 changes-at p x q y (Committed i j) = refl
 changes-at p x q y Posting = refl
 changes-at p x q y Opening = refl

@@ -18,7 +18,7 @@ letterOf Asleep = code "S"
 letterOf Waiting = code "W"
 
 -- at one of the places that have these letters
-abbrev pub isOneOf : String → ℕ → Bool
+abbrev isOneOf : String → ℕ → Bool
 isOneOf end letter = false
 isOneOf (c then cs) letter = eqb letter (code c) || isOneOf cs letter
 

@@ -1,4 +1,4 @@
--- The names that the definitions here use, gathered: the libraries' and the types that the code declares. No definition of its own.
+-- To be believed as names only, gathered for the definitions here: the libraries' and the types that the code declares. No definition of its own.
 pub use Rattle.alternative.specs.Types.{ℕ, suc, code, String, Bool, true, false, not, _&&_, _||_, List, [], _∷_, Option, some, none, take, replicate, getD, eqb, ltb, leb}
 pub use Rattle.alternative.specs.declared.{Guard.Guard, Found.Found}
 pub use Rattle.alternative.specs.declared.Found.the-variants.{At, Missing}

@@ -5,7 +5,6 @@ use mathlib.Core.Bool.{Bool, true, false, cond, false≢true}
 use mathlib.Core.List.{List}
 use native.Mathlib.Nat.{mod-eq-of-lt}
 use native.Mathlib.Omega.{arith}
-use lib.ListN.{set}
 use lib.Seq.{set-getD}
 use lib.Dec.{ltb}
 use borrow.Author.Tests.{lt-ltb}

@@ -14,7 +14,7 @@ use Rattle.script.specs.Printing.{refusalText, endOfLine, ended}
 use Rattle.script.specs.Lines.{Ended, unended, linesFrom, mostBytes, lineCommand}
 use Rattle.script.specs.Session.{turn, printedBy, output}
 use Rattle.script.specs.Feeding.{State, start, fed, fedByte, lineEnded, lineGrown, fedPieces, finished, Pieces}
-use Rattle.script.proofs.Lists.{take-again}
+use Rattle.text.proofs.Kept.{take-again}
 
 -- what a begun line and the bytes after it print
 rest : Option ProcessTable → List ℕ → List ℕ → List ℕ

@@ -1,4 +1,4 @@
--- The types that the code declares, gathered for the files here: no definition of its own.
+-- To be believed as names only, gathered for the definitions here: the types that the code declares. No definition of its own.
 pub use Rattle.alternative.specs.declared.Message.{Message}
 pub use Rattle.alternative.specs.declared.Message.the-variants.{Nothing, Whole, Reading, Limit}
 pub use Rattle.alternative.specs.declared.GuardList.{GuardList}

@@ -12,6 +12,7 @@ mod printing;
 pub use feeding::feed;
 pub use feeding::finish;
 pub use feeding::start;
+pub use output::least;
 
 // A session between two pieces of its input. `table` counts where `made` says so. The first `length` bytes of `bytes` are the begun
 // line; one byte more than a line may have tells an overlong one.

@@ -13,7 +13,6 @@ ghost use Rattle.process.specs.Process.{letterOf, indexOf};
 ghost use Rattle.rendezvous.specs.Numbers.{Said, said};
 ghost use Rattle.script.specs.Printing.{messageText, field, refusalText, answerText, ended};
 ghost use Rattle.script.specs.Private.{lineText};
-ghost use Rattle.process.specs.Form.{asFound};
 
 // A message as a guard writes it.
 fn message_text(text: Text, m: Message) -> Text

@@ -4,7 +4,7 @@ use libc::STDIN_FILENO;
 use libc::STDOUT_FILENO;
 use script::Fed;
 use script::Session;
-ghost use Prim.Native.Nat.{_*_, _≤_, min};
+ghost use Prim.Native.Nat.{_*_, _≤_};
 ghost use mathlib.Core.Path.{_≡_};
 ghost use lib.ListN.{length, take};
 ghost use Rattle.script.specs.Feeding.{stateOf, fed};
@@ -99,17 +99,11 @@ fn read_all(session: Session, input: &mut [u8], output: &mut [u8]) -> Progress
     failed(now, b"script: the input has too many pieces\n")
 }
 
-fn least(a: usize, b: usize) -> usize
-    ensures { λ r. ⌜ r ≡ min a b ⌝ }
-{
-    if a <= b { a } else { b }
-}
-
 // At the end of the input an unended last line is answered.
 fn write_end(session: Session) {
     let text = script::finish(session);
     let bytes = text.bytes;
-    let count = least(text.length, 64);
+    let count = script::least(text.length, 64);
     if !io::write_all(STDOUT_FILENO, &bytes[..count]) {
         io::write_all(
             STDERR_FILENO,

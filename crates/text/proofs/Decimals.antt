@@ -2,7 +2,7 @@
 use Prim.Native.Nat.{ℕ, suc, _+_, _-_, _*_, _<_, _≤_}
 use Prim.Native.Char.{code}
 use mathlib.Core.Path.{_≡_, refl, sym, _∙_, ap}
-use mathlib.Core.Bool.{Bool, true, false, cond}
+use mathlib.Core.Bool.{Bool, true, false, cond, _&&_, false≢true}
 use mathlib.Core.List.{List, [], _∷_}
 use mathlib.Core.Option.{Option, some, none}
 use native.Mathlib.Omega.{arith}
@@ -12,23 +12,27 @@ use lib.Dec.{leb}
 use lib.ListN.{length, getD, drop, drop-of-length-le}
 use lib.Seq.{drop-cons}
 use Rattle.text.specs.Types.{_>>=_}
-use Rattle.text.specs.Reading.{isDigit, decimalFrom, decimal, provided, byteNumber, whole}
+use Rattle.text.specs.Reading.{within, isDigit, decimalFrom, decimal, provided, byteNumber, whole}
 use Rattle.text.specs.Private.{inWord, positiveOf, negativeOf}
-use Rattle.text.proofs.Options.{and-parts}
 
 -- ---- one digit
+pub within-range : (low high b : ℕ) → within low high b ≡ true → (low ≤ b) × (b ≤ high)
+within-range low high b = go (leb low b) refl
+  where
+    go : (t : Bool) → leb low b ≡ t → (t && leb b high) ≡ true → (low ≤ b) × (b ≤ high)
+    go true l e = (leb-true low b l, leb-true b high e)
+    go false l e = absurd (false≢true e)
+
 pub digit-range : (b : ℕ) → isDigit b ≡ true → (code "0" ≤ b) × (b ≤ code "9")
-digit-range b e =
-    let p = and-parts (leb (code "0") b) (leb b (code "9")) e in
-    (leb-true (code "0") b (p .0), leb-true b (code "9") (p .1))
+digit-range b e = within-range (code "0") (code "9") b e
 
 from-digit : (a b : ℕ) (bs : List ℕ) → isDigit b ≡ true → decimalFrom a (b ∷ bs) ≡ decimalFrom (a * 10 + (b - code "0")) bs
 unfolding decimalFrom
-from-digit a b bs e = ap (λ (t : Bool). cond t (decimalFrom (a * 10 + (b - code "0")) bs) none) e
+from-digit a b bs e = rw e
 
 from-other : (a b : ℕ) (bs : List ℕ) → isDigit b ≡ false → decimalFrom a (b ∷ bs) ≡ none
 unfolding decimalFrom
-from-other a b bs e = ap (λ (t : Bool). cond t (decimalFrom (a * 10 + (b - code "0")) bs) none) e
+from-other a b bs e = rw e
 
 -- ---- the digits from index i on
 pub digit-next : (l : List ℕ) (i a : ℕ) → i < length l → isDigit (getD l i 0) ≡ true

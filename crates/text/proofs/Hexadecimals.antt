@@ -4,25 +4,18 @@ use Prim.Native.Char.{code}
 use mathlib.Core.Path.{_≡_, refl, sym, _∙_, ap}
 use mathlib.Core.Bool.{Bool, true, false}
 use mathlib.Core.List.{List, _∷_}
-use mathlib.Core.Option.{Option, some, none}
+use mathlib.Core.Option.{Option, some, none, Option·none-ne-some}
 use native.Mathlib.Omega.{arith}
 use native.Mathlib.Nat.{pow-suc, pow-le-pow-right}
 use native.Mathlib.Numerals.{add-one}
-use borrow.Author.Tests.{eq-eqb, ne-eqb, leb-true}
-use lib.Dec.{leb}
+use borrow.Author.Tests.{eq-eqb, ne-eqb}
 use lib.ListN.{length, getD, drop, drop-of-length-le}
 use lib.Seq.{drop-cons}
 use Rattle.text.specs.Types.{_>>=_}
 use Rattle.text.specs.Reading.{within, isDigit, hexDigit, hexFrom, hexWord}
-use Rattle.text.proofs.Options.{and-parts}
-use Rattle.text.proofs.Decimals.{digit-range}
+use Rattle.text.proofs.Decimals.{within-range, digit-range}
 
 -- ---- one digit
-letter-range : (b : ℕ) → within (code "a") (code "f") b ≡ true → (code "a" ≤ b) × (b ≤ code "f")
-letter-range b e =
-    let p = and-parts (leb (code "a") b) (leb b (code "f")) e in
-    (leb-true (code "a") b (p .0), leb-true b (code "f") (p .1))
-
 pub hex-decimal : (b : ℕ) → isDigit b ≡ true → hexDigit b ≡ some (b - code "0")
 unfolding hexDigit
 hex-decimal b e = rw e
@@ -42,14 +35,12 @@ hex-below-at b d true u e g h =
     let s : b - code "0" ≡ d = cc in
     omega arith
 hex-below-at b d false true e g h =
-    let r = letter-range b g in
+    let r = within-range (code "a") (code "f") b g in
     let f = hex-letter b e g in
     let s : b - code "a" + 10 ≡ d = cc in
     omega arith
 hex-below-at b d false false e g h =
-    let f = hex-other b e g in
-    let z : _≡_ {A = ℕ} 0 1 = cc in
-    absurd (omega arith)
+    absurd (Option·none-ne-some d (sym (hex-other b e g) ∙ h))
 
 pub hex-below : (b d : ℕ) → hexDigit b ≡ some d → d < 16
 hex-below b d h = hex-below-at b d (isDigit b) (within (code "a") (code "f") b) refl refl h

@@ -1,5 +1,5 @@
 -- Where a magnitude meets its sign.
-use Prim.Native.Nat.{ℕ, zero, suc, _<_, _≤_}
+use Prim.Native.Nat.{ℕ, zero, suc, _≤_}
 use mathlib.Core.Path.{_≡_, refl, sym, _∙_, ap, subst}
 use mathlib.Core.Bool.{true, false}
 use native.Mathlib.Omega.{arith}
@@ -21,19 +21,13 @@ minus-at m h = ap (λ (z : ℤ). pos 0 -ℤ z) (toZ-pos w64 {n = m} (omega arith
 
 -- a number below 0, taken from 0, is its magnitude; one not below 0 is its magnitude
 pub turned : (z : ℤ) → ltZ z (pos 0) ≡ true → pos 0 -ℤ z ≡ pos (natAbs z)
-turned (pos n) e = absurd (not-below n (ltb-true n 0 e))
-  where
-    not-below : (n : ℕ) → n < 0 → ⊥
-    not-below n h = omega arith
+turned (pos n) e = absurd (omega (arith, ltb-true n 0 e))
 turned (negsuc n) e = +ℤ-idl (pos (suc n))
 
 pub unturned : (z : ℤ) → ltZ z (pos 0) ≡ false → z ≡ pos (natAbs z)
 unturned (pos n) e = refl
 unturned (negsuc n) e = absurd (subst T e tt)
 
--- a signed 32-bit number, read back from its bits, is itself; so it is at 64 bits
-pub back : (z : ℤ) → SFits w32 z → toZ w32 (ofZ w32 z) ≡ z
-back z f = toZ-ofZ f
-
+-- a signed 32-bit number, read back from its bits at 64 bits, is itself
 pub back-wide : (z : ℤ) → SFits w32 z → toZ w64 (ofZ w64 (toZ w32 (ofZ w32 z))) ≡ z
 back-wide z f = toZ-ofZ (subst (λ (y : ℤ). SFits w64 y) (sym (toZ-ofZ f)) (sfits-widen tt f)) ∙ toZ-ofZ f

@@ -1,4 +1,3 @@
-pub mod Options
 pub mod Kept
 pub mod Decimals
 pub mod Hexadecimals

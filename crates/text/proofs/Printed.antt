@@ -47,11 +47,11 @@ hex-last (suc k) n e = ap (λ (j : ℕ). hexUpTo j (n / 16) ++ hexGlyph (n % 16)
 
 pub whole-below : (x : ℤ) → ltZ x (pos 0) ≡ true → wholeText x ≡ code "-" ∷ decimalText (natAbs x)
 unfolding wholeText
-whole-below x e = ap (λ (t : Bool). cond t (code "-" ∷ decimalText (natAbs x)) (decimalText (natAbs x))) e
+whole-below x e = rw e
 
 pub whole-above : (x : ℤ) → ltZ x (pos 0) ≡ false → wholeText x ≡ decimalText (natAbs x)
 unfolding wholeText
-whole-above x e = ap (λ (t : Bool). cond t (code "-" ∷ decimalText (natAbs x)) (decimalText (natAbs x))) e
+whole-above x e = rw e
 
 -- ---- how long the texts are
 decimal-length : (k n : ℕ) → length (decimalUpTo k n) ≤ k + 1

@@ -4,7 +4,7 @@ use Prim.Native.Char.{code}
 use mathlib.Core.Path.{_≡_, refl, sym, _∙_, ap}
 use mathlib.Core.Bool.{Bool, true, false, cond}
 use mathlib.Core.List.{List, [], _∷_, _++_}
-use mathlib.Core.Option.{Option, some, none}
+use mathlib.Core.Option.{Option, some, none, Option·some-injective, Option·none-ne-some}
 use native.Mathlib.Omega.{arith}
 use native.Mathlib.Nat.{pow-suc}
 use borrow.Author.Tests.{lt-ltb, le-ltb, le-leb, lt-leb, ltb-true, ltb-false}
@@ -21,53 +21,34 @@ use Rattle.text.proofs.Decimals.{decimal-more, in-word, whole-minus, wh
 use Rattle.text.proofs.Hexadecimals.{hex-decimal, hex-letter, word-length}
 use Rattle.text.proofs.Printed.{glyph-decimal, glyph-letter, whole-below, whole-above, hex-text-length}
 
--- two options with one value
-some-same : {a b : ℕ} → some a ≡ some b → a ≡ b
-some-same e = cc
-
-none-some : {b : ℕ} → none ≡ some b → ⊥
-none-some e = let z : _≡_ {A = ℕ} 0 1 = cc in omega arith
-
 -- ---- decimal: the value
 digit-spelt : (d : ℕ) → d < 10 → isDigit (code "0" + d) ≡ true
 digit-spelt d h = rw (le-leb (code "0") (code "0" + d) (omega arith), le-leb (code "0" + d) (code "9") (omega arith))
 
 decimal-one : (a d : ℕ) → d < 10 → decimalFrom a ((code "0" + d) ∷ []) ≡ some (a * 10 + d)
 unfolding decimalFrom
-decimal-one a d h = rw (digit-spelt d h) (ap (λ (n : ℕ). some (a * 10 + n)) (same d))
-  where
-    same : (d : ℕ) → code "0" + d - code "0" ≡ d
-    same d = omega arith
+decimal-one a d h = rw (digit-spelt d h) (ap (λ (n : ℕ). some (a * 10 + n)) (omega arith))
 
 -- a digit behind digits, by the test of their first byte
 snoc-at : (m d : ℕ) (x y : Option ℕ) (t : Bool) → (x ≡ some m → y ≡ some (m * 10 + d)) → cond t x none ≡ some m → cond t y none ≡ some (m * 10 + d)
 snoc-at m d x y true h e = h e
-snoc-at m d x y false h e = absurd (none-some e)
+snoc-at m d x y false h e = absurd (Option·none-ne-some m e)
 
 decimal-snoc : (a m d : ℕ) (l : List ℕ) → d < 10 → decimalFrom a l ≡ some m → decimalFrom a (l ++ (code "0" + d) ∷ []) ≡ some (m * 10 + d)
 unfolding decimalFrom
-decimal-snoc a m d [] h e = decimal-one a d h ∙ ap (λ (n : ℕ). some (n * 10 + d)) (some-same e)
+decimal-snoc a m d [] h e = decimal-one a d h ∙ ap (λ (n : ℕ). some (n * 10 + d)) (Option·some-injective a m e)
 decimal-snoc a m d (b ∷ l) h e =
     let a′ = a * 10 + (b - code "0") in
     snoc-at m d (decimalFrom a′ l) (decimalFrom a′ (l ++ (code "0" + d) ∷ [])) (isDigit b) (decimal-snoc a′ m d l h) e
 
-nothing-before : (n : ℕ) → 0 * 10 + n ≡ n
-nothing-before n = omega arith
-
 value-at : (n : ℕ) (l : List ℕ) (t : Bool) → ltb n 10 ≡ t → decimalFrom 0 l ≡ some (n / 10)
     → decimalFrom 0 (cond t ((code "0" + n) ∷ []) (l ++ (code "0" + n % 10) ∷ [])) ≡ some n
-value-at n l true e h = decimal-one 0 n (ltb-true n 10 e) ∙ ap some (nothing-before n)
-value-at n l false e h = decimal-snoc 0 (n / 10) (n % 10) l (omega arith) h ∙ ap some (parts n)
-  where
-    parts : (n : ℕ) → n / 10 * 10 + n % 10 ≡ n
-    parts n = omega arith
+value-at n l true e h = decimal-one 0 n (ltb-true n 10 e) ∙ ap some (omega arith)
+value-at n l false e h = decimal-snoc 0 (n / 10) (n % 10) l (omega arith) h ∙ ap some (omega arith)
 
 value : (k n : ℕ) → n < 10 ^ suc k → decimalFrom 0 (decimalUpTo k n) ≡ some n
 unfolding decimalUpTo
-value zero n h = decimal-one 0 (n % 10) (omega arith) ∙ ap some (last n h)
-  where
-    last : (n : ℕ) → n < 10 → 0 * 10 + n % 10 ≡ n
-    last n h = omega arith
+value zero n h = decimal-one 0 (n % 10) (omega arith) ∙ ap some (omega arith)
 value (suc k) n h = value-at n (decimalUpTo k (n / 10)) (ltb n 10) refl (value k (n / 10) (omega (arith, pow-suc 10 (suc k))))
 
 -- ---- decimal: the first byte. It is a digit, and no 0 unless the number is 0 or has too many digits.
@@ -131,22 +112,16 @@ whole-back (negsuc n) f =
 glyph-back-at : (d : ℕ) (t : Bool) → ltb d 10 ≡ t → d < 16 → hexDigit (hexGlyph d) ≡ some d
 glyph-back-at d true e h =
     let small = ltb-true d 10 e in
-    ap hexDigit (glyph-decimal d small) ∙ hex-decimal (code "0" + d) (digit-spelt d small) ∙ ap some (same d)
-  where
-    same : (d : ℕ) → code "0" + d - code "0" ≡ d
-    same d = omega arith
+    ap hexDigit (glyph-decimal d small) ∙ hex-decimal (code "0" + d) (digit-spelt d small) ∙ ap some (omega arith)
 glyph-back-at d false e h =
     let large = ltb-false d 10 e in
     let b = code "a" + (d - 10) in
     ap hexDigit (glyph-letter d large)
     ∙ hex-letter b (rw (le-leb (code "0") b (omega arith), lt-leb b (code "9") (omega arith)))
     (rw (le-leb (code "a") b (omega arith), le-leb b (code "f") (omega arith)))
-    ∙ ap some (same d large)
-  where
-    same : (d : ℕ) → 10 ≤ d → code "a" + (d - 10) - code "a" + 10 ≡ d
-    same d h = omega arith
+    ∙ ap some (omega arith)
 
-pub glyph-back : (d : ℕ) → d < 16 → hexDigit (hexGlyph d) ≡ some d
+glyph-back : (d : ℕ) → d < 16 → hexDigit (hexGlyph d) ≡ some d
 glyph-back d h = glyph-back-at d (ltb d 10) refl h
 
 hex-one : (a d : ℕ) → d < 16 → hexFrom a (hexGlyph d ∷ []) ≡ some (a * 16 + d)
@@ -155,26 +130,20 @@ hex-one a d h = ap (λ (o : Option ℕ). _>>=_ o (λ e. some (a * 16 + e))) (gly
 
 -- a digit behind digits, by what their first byte is
 hex-snoc-at : (m n : ℕ) (f g : ℕ → Option ℕ) (o : Option ℕ) → ((e : ℕ) → f e ≡ some m → g e ≡ some n) → _>>=_ o f ≡ some m → _>>=_ o g ≡ some n
-hex-snoc-at m n f g none h e = absurd (none-some e)
+hex-snoc-at m n f g none h e = absurd (Option·none-ne-some m e)
 hex-snoc-at m n f g (some d) h e = h d e
 
 hex-snoc : (a m d : ℕ) (l : List ℕ) → d < 16 → hexFrom a l ≡ some m → hexFrom a (l ++ hexGlyph d ∷ []) ≡ some (m * 16 + d)
 unfolding hexFrom
-hex-snoc a m d [] h e = hex-one a d h ∙ ap (λ (n : ℕ). some (n * 16 + d)) (some-same e)
+hex-snoc a m d [] h e = hex-one a d h ∙ ap (λ (n : ℕ). some (n * 16 + d)) (Option·some-injective a m e)
 hex-snoc a m d (b ∷ l) h e =
     hex-snoc-at m (m * 16 + d) (λ v. hexFrom (a * 16 + v) l) (λ v. hexFrom (a * 16 + v) (l ++ hexGlyph d ∷ [])) (hexDigit b)
     (λ v. hex-snoc (a * 16 + v) m d l h) e
 
 hex-value : (k n : ℕ) → n < 16 ^ k → hexFrom 0 (hexUpTo k n) ≡ some n
 unfolding hexUpTo hexFrom
-hex-value zero n h = ap some (none-left n h)
-  where
-    none-left : (n : ℕ) → n < 1 → 0 ≡ n
-    none-left n h = omega arith
-hex-value (suc k) n h = hex-snoc 0 (n / 16) (n % 16) (hexUpTo k (n / 16)) (omega arith) (hex-value k (n / 16) (omega (arith, pow-suc 16 k))) ∙ ap some (parts n)
-  where
-    parts : (n : ℕ) → n / 16 * 16 + n % 16 ≡ n
-    parts n = omega arith
+hex-value zero n h = ap some (omega arith)
+hex-value (suc k) n h = hex-snoc 0 (n / 16) (n % 16) (hexUpTo k (n / 16)) (omega arith) (hex-value k (n / 16) (omega (arith, pow-suc 16 k))) ∙ ap some (omega arith)
 
 pub hex-word-back : (n : ℕ) → n < 4294967296 → hexWord (hexText n) ≡ some n
 hex-word-back n h = word-length (hexText n) (hex-text-length n) ∙ hex-value 8 n h

@@ -23,7 +23,7 @@ unfoldable pub placeFrom : ℕ → List ℕ → ℕ → Option ℕ
 placeFrom i [] b = none
 placeFrom i (c ∷ cs) b = cond (eqb b c) (some i) (placeFrom (suc i) cs b)
 
-abbrev pub hexDigits : List ℕ
+abbrev hexDigits : List ℕ
 hexDigits = bytes "0123456789abcdef"
 
 pub record EdgeCases : Type 0 where

@@ -10,13 +10,17 @@ pub use reading::read_byte_number;
 pub use reading::read_hex_word;
 pub use reading::read_whole;
 
-// A number of a script line, or none.
+// What bytes spell, or malformed: a number of 32 bits, one from 0 to 255, a signed one of 32 bits.
 pub enum Number {
     Malformed,
     Value(u32),
 }
 
-// A signed number of a script line, or none.
+pub enum ByteNumber {
+    Malformed,
+    Value(u8),
+}
+
 pub enum Whole {
     Malformed,
     Value(i32),

@@ -1,10 +1,11 @@
 // The numbers that bytes spell: decimal, signed decimal and hexadecimal.
+use crate::ByteNumber;
 use crate::Number;
 use crate::Whole;
 use crate::signs::negative;
 use crate::signs::positive;
 ghost use mathlib.Core.Path.{_≡_};
-ghost use Rattle.text.specs.Types.{asNumber, asWhole};
+ghost use Rattle.text.specs.Types.{numberRead, byteRead, wholeRead};
 ghost use Rattle.text.specs.Reading.{isDigit, decimal, decimalFrom, byteNumber, whole, hexDigit, hexWord};
 ghost use Rattle.text.specs.Private.{inWord};
 
@@ -16,7 +17,7 @@ pub fn is_digit(b: u8) -> bool
 
 // The number that decimal digits spell, where it has at most 32 bits. No digits spell 0.
 fn read_digits(s: &[u8]) -> Number
-    ensures { λ r. ⌜ r ≡ asNumber (inWord (decimalFrom 0 (now (s .entry)))) ⌝ }
+    ensures { λ r. ⌜ numberRead r ≡ inWord (decimalFrom 0 (now (s .entry))) ⌝ }
 {
     let mut a: u64 = 0;
     let mut i = 0;
@@ -36,7 +37,7 @@ fn read_digits(s: &[u8]) -> Number
 
 // The same without leading zeros, and with one digit at least.
 fn read_decimal(s: &[u8]) -> Number
-    ensures { λ r. ⌜ r ≡ asNumber (inWord (decimal (now (s .entry)))) ⌝ }
+    ensures { λ r. ⌜ numberRead r ≡ inWord (decimal (now (s .entry))) ⌝ }
 {
     let n = s.len();
     if n == 0 {
@@ -51,22 +52,22 @@ fn read_decimal(s: &[u8]) -> Number
 }
 
 // A decimal number from 0 to 255.
-pub fn read_byte_number(s: &[u8]) -> Number
-    ensures { λ r. ⌜ r ≡ asNumber (byteNumber (now (s .entry))) ⌝ }
+pub fn read_byte_number(s: &[u8]) -> ByteNumber
+    ensures { λ r. ⌜ byteRead r ≡ byteNumber (now (s .entry)) ⌝ }
 {
     let Number::Value(n) = read_decimal(s) else {
-        return Number::Malformed;
+        return ByteNumber::Malformed;
     };
     if n <= 255 {
-        Number::Value(n)
+        ByteNumber::Value(n as u8)
     } else {
-        Number::Malformed
+        ByteNumber::Malformed
     }
 }
 
 // A signed decimal number of 32 bits.
 pub fn read_whole(s: &[u8]) -> Whole
-    ensures { λ r. ⌜ r ≡ asWhole (whole (now (s .entry))) ⌝ }
+    ensures { λ r. ⌜ wholeRead r ≡ whole (now (s .entry)) ⌝ }
 {
     if s.len() == 0 {
         return Whole::Malformed;
@@ -86,7 +87,7 @@ pub fn read_whole(s: &[u8]) -> Whole
 
 // The value of a lower-case hexadecimal digit.
 fn hex_digit(b: u8) -> Number
-    ensures { λ r. ⌜ r ≡ asNumber (hexDigit b) ⌝ }
+    ensures { λ r. ⌜ numberRead r ≡ hexDigit b ⌝ }
 {
     if is_digit(b) {
         return Number::Value((b - b'0') as u32);
@@ -99,7 +100,7 @@ fn hex_digit(b: u8) -> Number
 
 // Eight lower-case hexadecimal digits.
 pub fn read_hex_word(s: &[u8]) -> Number
-    ensures { λ r. ⌜ r ≡ asNumber (hexWord (now (s .entry))) ⌝ }
+    ensures { λ r. ⌜ numberRead r ≡ hexWord (now (s .entry)) ⌝ }
 {
     if s.len() != 8 {
         return Number::Malformed;

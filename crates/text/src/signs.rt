@@ -2,12 +2,12 @@
 use crate::Whole;
 ghost use mathlib.Core.Path.{_≡_};
 ghost use lib.IntN.{natAbs};
-ghost use Rattle.text.specs.Types.{asWhole};
+ghost use Rattle.text.specs.Types.{wholeRead};
 ghost use Rattle.text.specs.Private.{positiveOf, negativeOf};
 
 // n as a signed number.
 pub fn positive(n: u32) -> Whole
-    ensures { λ r. ⌜ r ≡ asWhole (positiveOf n) ⌝ }
+    ensures { λ r. ⌜ wholeRead r ≡ positiveOf n ⌝ }
 {
     if n <= 2147483647 {
         Whole::Value(n as i32)
@@ -18,7 +18,7 @@ pub fn positive(n: u32) -> Whole
 
 // -n as a signed number. There is no -0.
 pub fn negative(n: u32) -> Whole
-    ensures { λ r. ⌜ r ≡ asWhole (negativeOf n) ⌝ }
+    ensures { λ r. ⌜ wholeRead r ≡ negativeOf n ⌝ }
 {
     if n == 0 {
         return Whole::Malformed;

@@ -1,7 +1,7 @@
 -- What a table holds is read back from its bytes, whatever follows them.
 use Prim.Native.Nat.{ℕ, suc, _+_, _*_, _/_, _%_, _^_, _<_}
 use mathlib.Core.Path.{_≡_, refl, sym, ap, subst, _∙_}
-use mathlib.Core.Bool.{Bool, true, false, not, cond}
+use mathlib.Core.Bool.{Bool, true, false, not}
 use mathlib.Core.List.{List, [], _∷_, _++_, append-assoc}
 use native.Mathlib.Nat.{div-add-mod, div-div-eq-div-mul}
 use native.Mathlib.Omega.{arith}
@@ -21,7 +21,7 @@ use Rattle.wire.proofs.Lengths.{word-length, guard-length, place-length
 use Rattle.wire.proofs.Lists.{each-length}
 use Rattle.wire.proofs.Parts.{process-length, table-length}
 
-flag-back : (b : Bool) → not (eqb (cond b 1 0) 0) ≡ b
+pub flag-back : (b : Bool) → not (eqb (flag b) 0) ≡ b
 flag-back true = refl
 flag-back false = refl
 

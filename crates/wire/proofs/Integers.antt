@@ -21,17 +21,11 @@ pub below-zero : (b : ℕ) → 2147483648 ≤ b → b < 4294967296 → negsuc 0 
 below-zero b h l = rw (toZ-pos w32 {n = 4294967295 - b} (omega arith), le-ltb b 2147483648 h) (minus-one (4294967295 - b) ∙ ap negsuc (omega arith))
 
 pub turned : (z : ℤ) → ltZ z (pos 0) ≡ true → negsuc 0 -ℤ z ≡ pos (mag z)
-turned (pos n) e = absurd (not-below n (ltb-true n 0 e))
-  where
-    not-below : (n : ℕ) → n < 0 → ⊥
-    not-below n h = omega arith
+turned (pos n) e = absurd (omega (arith, ltb-true n 0 e))
 turned (negsuc n) e = rw (le-ltb (suc n) 1 (omega arith)) (ap pos (omega arith))
 
 pub bits-below : (z : ℤ) → ltZ z (pos 0) ≡ true → ofZ w32 z ≡ 4294967295 - mag z
-bits-below (pos n) e = absurd (not-below n (ltb-true n 0 e))
-  where
-    not-below : (n : ℕ) → n < 0 → ⊥
-    not-below n h = omega arith
+bits-below (pos n) e = absurd (omega (arith, ltb-true n 0 e))
 bits-below (negsuc n) e = omega arith
 
 pub unturned : (z : ℤ) → ltZ z (pos 0) ≡ false → z ≡ pos (natAbs z)

@@ -11,7 +11,7 @@ use Rattle.process.proofs.Process as process
 use Rattle.rendezvous.proofs.ProcessTable as table
 use Rattle.wire.specs.Types.{Message, Nothing, Whole, Reading, Limit, Action, Receive, Send, Guard, Signal, Absent, Present, Place, Idle, Entering, Scanning, Trying, Committed, Posting, Opening, Showing, Asleep, Waiting, Met, Process, ProcessTable}
 use Rattle.wire.specs.Claims.{MessageHeld, ActionHeld, SignalHeld, PlaceHeld, Each, GuardsHeld, ProcessHeld, Held}
-use Rattle.wire.proofs.Lengths.{length-mapped}
+use Rattle.rendezvous.proofs.Lengths.{length-mapped}
 use denote.Shadow.{shadow}
 use denote.Array.{each}
 use base.Fml.{Fml}

@@ -1,9 +1,9 @@
 -- How long the parts of the form are.
 use Prim.Native.Nat.{ℕ, _*_}
-use mathlib.Core.Path.{_≡_, refl, sym, ap, _∙_}
-use mathlib.Core.List.{List, map}
+use mathlib.Core.Path.{_≡_, refl, ap, _∙_}
+use mathlib.Core.List.{List}
 use native.Mathlib.Omega.{arith}
-use lib.ListN.{length, length-map}
+use lib.ListN.{length}
 use Rattle.wire.specs.Types.{Message, Nothing, Whole, Reading, Limit, Action, Receive, Send, Guard, Signal, Absent, Present, Place, Idle, Entering, Scanning, Trying, Committed, Posting, Opening, Showing, Asleep, Waiting, Met}
 use Rattle.wire.specs.Writing.{wordBytes, messageBytes, actionBytes, guardBytes, placeBytes, signalBytes, guardsBytes}
 use Rattle.wire.specs.Claims.{ActionHeld, GuardsHeld}
@@ -51,7 +51,3 @@ signal-length (Present i m) = omega (arith, message-length m)
 pub guards-length : (gs : List Guard) → GuardsHeld gs → length (guardsBytes gs) ≡ 96
 unfolding guardsBytes
 guards-length gs h = each-length (λ (g : Guard). ActionHeld (g .action)) guardBytes 12 (λ g u. guard-length g) gs (h .each) ∙ ap (λ (n : ℕ). 12 * n) (h .eight)
-
--- the length of an array that a struct holds, from what owning the struct tells: `search (length-mapped, c .good)`
-pub length-mapped : {A B : Type 0} (f : A → B) (l : List A) (n : ℕ) → length (map f l) ≡ n → length l ≡ n
-length-mapped f l n e = sym (length-map l f) ∙ e

@@ -77,9 +77,6 @@ module _ {A : Type 0} (read : List ℕ → A) (size : ℕ) where
   -- value i of those that are read
   pub each-at : (n i : ℕ) (bytes : List ℕ) (d : A) → i < n → getD (eachOf read size n bytes) i d ≡ read (drop (size * i) bytes)
   unfolding eachOf
-  each-at zero i bytes d h = absurd (not-below i h)
-    where
-      not-below : (k : ℕ) → k < 0 → ⊥
-      not-below k b = omega arith
+  each-at zero i bytes d h = absurd (omega arith)
   each-at (suc n) zero bytes d h = rw mul-zero
   each-at (suc n) (suc i) bytes d h = rw (mul-suc, add-comm (size * i) size, ← (drop-drop (size * i) size bytes)) (each-at n i (drop size bytes) d (omega arith))

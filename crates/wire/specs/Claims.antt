@@ -5,7 +5,7 @@ use Rattle.wire.specs.Writing.{tableLength, bytesOf}
 use lib.Ieee as ieee
 
 -- a ticket of 32 bits, a signed number of 32 bits, an f32, as the code's types have them
-abbrev pub Ticket : ℕ → Type 0
+abbrev Ticket : ℕ → Type 0
 Ticket x = x < 2 ^ 32
 
 abbrev pub Single : Float → Type 0

@@ -1,4 +1,4 @@
--- The names that the definitions here use, gathered: the libraries' and the types that the code declares. No definition of its own.
+-- To be believed as names only, gathered for the definitions here: the libraries' and the types that the code declares. No definition of its own.
 pub use Prim.Native.Nat.{ℕ, zero, suc, _+_, _*_, _/_, _%_, _^_, _<_}
 pub use mathlib.Core.Path.{_≡_}
 pub use mathlib.Core.Bool.{Bool, not, cond}

@@ -1,4 +1,3 @@
-use mathlib.Core.Path.{_≡_}
 use borrow.Author.Needs.{needs}
 use Rattle.command.proofs.plain_command.Statement.{statement}
 use Rattle.command.proofs.plain_command.Tie as tie

@@ -2,18 +2,17 @@ use mathlib.Core.Path.{_≡_}
 use native.Mathlib.Omega.{arith}
 use borrow.Author.Needs.{needs}
 use lib.ListN.{length, length-take}
-use Rattle.text.proofs.Kept.{length-mapped}
 use Rattle.script_main.proofs.write_end.Statement.{statement}
 use Rattle.script_main.proofs.write_end.Tie as tie
 
 array-share-prefix-bytes : tie.Need-array-share-prefix-bytes
 array-share-prefix-bytes c =
-    let h : length (c .before .before .finish .result .bytes) ≡ 64 = search length-mapped in
+    let h : length (c .before .before .finish .result .bytes) ≡ 64 = search needs in
     omega (arith, c .least .ensures)
 
 slice-aggregate-write-all : tie.Need-slice-aggregate-write-all
 slice-aggregate-write-all c =
-    let h : length (c .before .before .before .finish .result .bytes) ≡ 64 = search length-mapped in
+    let h : length (c .before .before .before .finish .result .bytes) ≡ 64 = search needs in
     simp length-take (omega (arith, c .before .least .ensures))
 
 pub write-end-spec : {M : Type 1} → statement M

@@ -12,7 +12,7 @@ use Rattle.wire.specs.Writing.{eachBytes, processBytes, onto}
 use Rattle.wire.proofs.Back.{table-back}
 use Rattle.wire.proofs.Kept.{table-held}
 use Rattle.wire.proofs.Parts.{table-laid}
-use Rattle.wire.proofs.Lengths.{length-mapped}
+use Rattle.rendezvous.proofs.Lengths.{length-mapped}
 use Rattle.wire.proofs.Lists.{put-next, length-next}
 use Rattle.wire.proofs.encode.Statement.{statement}
 use Rattle.wire.proofs.encode.Tie as tie
@@ -82,68 +82,21 @@ encode-spec =
     Inv-loop
     μ-loop
     returns
-    (λ
-    c.
-    search
-    needs)
-    (λ
-    c
-    κs.
-    search
-    needs)
-    (λ
-    c
-    κs.
-    search
-    needs)
-    (λ
-    c.
-    search
-    needs)
-    (λ
-    c
-    κs.
-    search
-    needs)
+    (λ c. search needs)
+    (λ c κs. search needs)
+    (λ c κs. search needs)
+    (λ c. search needs)
+    (λ c κs. search needs)
     loop-holds
-    (λ
-    c.
-    omega
-    arith)
-    (λ
-    c.
-    omega
-    arith)
-    (λ
-    c
-    κs.
-    search
-    needs)
-    (λ
-    c.
-    omega
-    arith)
-    (λ
-    c.
-    omega
-    arith)
-    (λ
-    c.
-    search
-    needs)
-    (λ
-    c
-    κs.
-    search
-    needs)
-    (λ
-    c.
-    omega
-    arith)
-    (λ
-    c.
-    omega
-    arith)
+    (λ c. omega arith)
+    (λ c. omega arith)
+    (λ c κs. search needs)
+    (λ c. omega arith)
+    (λ c. omega arith)
+    (λ c. search needs)
+    (λ c κs. search needs)
+    (λ c. omega arith)
+    (λ c. omega arith)
     loop-again
     same-length
     returns-2)

@@ -1,4 +1,3 @@
-use mathlib.Core.Path.{_≡_}
 use borrow.Author.Needs.{needs}
 use Rattle.alternative.proofs.floats.message_holds_nan.Statement.{statement}
 use Rattle.alternative.proofs.floats.message_holds_nan.Tie as tie

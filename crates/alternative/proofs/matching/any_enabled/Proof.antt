@@ -1,59 +1,36 @@
-use Prim.Native.Nat.{_≤_, _-_}
+use Prim.Native.Nat.{ℕ, suc}
 use mathlib.Core.Path.{_≡_, refl}
-use mathlib.Core.Bool.{cond}
-use native.Mathlib.Omega.{arith}
+use mathlib.Core.Bool.{Bool, true, false, cond, _||_}
+use mathlib.Core.List.{List, [], _∷_}
 use borrow.Author.Needs.{needs}
-use lib.Dec.{ltb}
-use lib.ListN.{length, take, drop}
-use Rattle.alternative.specs.Guards.{blank, anyGuard}
-use Rattle.alternative.proofs.Rest.{held-most, held-at, held-end}
+use Rattle.alternative.specs.Types.{Guard, Found, At, Missing}
+use Rattle.alternative.specs.Guards.{anyGuard, firstFrom, nextEnabled}
 use Rattle.alternative.proofs.matching.any_enabled.Statement.{statement}
 use Rattle.alternative.proofs.matching.any_enabled.Tie as tie
 
--- the whole list has an enabled guard just if the rest has one
-abbrev Inv-loop : tie.InvT-loop
-Inv-loop count list end k₀ k =
-    (length list ≡ 8) × (end ≤ 8) × (end ≡ cond (ltb count 8) count 8) × (anyGuard (λ g. g .enabled) (take count list) ≡ anyGuard (λ g. g .enabled) (drop k (take count list)))
+abbrev found : Found → Bool
+found (At i) = true
+found Missing = false
 
-abbrev μ-loop : tie.MeasureT-loop
-μ-loop count list end k₀ k = end - k
+-- a guard of a list passes a test just if the search for one finds it
+any-found : (test : Guard → Bool) (gs : List Guard) (k : ℕ) → found (firstFrom test gs k) ≡ anyGuard test gs
+unfolding firstFrom anyGuard
+any-found test [] k = refl
+any-found test (g ∷ gs) k = go (test g) (any-found test gs (suc k))
+  where
+    go : (b : Bool) → found (firstFrom test gs (suc k)) ≡ anyGuard test gs → found (cond b (At k) (firstFrom test gs (suc k))) ≡ (b || anyGuard test gs)
+    go true h = refl
+    go false h = h
 
-loop-holds : tie.Need-loop-holds Inv-loop μ-loop
-loop-holds c = (search needs, held-most (c .before .args .count) _ (c .held .ensures), c .held .ensures, refl)
+enabled-found : (gs : List Guard) (f : Found) → f ≡ nextEnabled gs 0 → found f ≡ anyGuard (λ g. g .enabled) gs
+unfolding nextEnabled
+enabled-found gs f e = rw e (any-found (λ g. g .enabled) gs 0)
 
-returns : tie.Need-returns Inv-loop μ-loop
-unfolding anyGuard
-returns c =
-    let l = c .before .before .before in
-    let i = l .loop .inv in
-    rw (i .3, held-at _ _ _ (l .loop .k) (i .0) (i .2) blank (omega arith), c .if1 .taken)
+returns : tie.Need-returns
+returns c = rw (c .enum-told .given .1) at (enabled-found _ _ (c .before .before .next-enabled .ensures))
 
-loop-again : tie.Need-loop-again Inv-loop μ-loop
-unfolding anyGuard
-loop-again c =
-    let l = c .before .before .before in
-    let i = l .loop .inv in
-    (i .0, i .1, i .2, rw (i .3, held-at _ _ _ (l .loop .k) (i .0) (i .2) blank (omega arith), c .if1 .left))
-
-returns-2 : tie.Need-returns-2 Inv-loop μ-loop
-unfolding anyGuard
-returns-2 c =
-    let l = c .before in
-    let i = l .loop .inv in
-    rw (i .3, held-end _ _ _ (l .loop .k) (i .0) (i .2) (omega arith))
+returns-2 : tie.Need-returns-2
+returns-2 c = rw (c .enum-told2 .given .1) at (enabled-found _ _ (c .before .before .next-enabled .ensures))
 
 pub any-enabled-spec : {M : Type 1} → statement M
-any-enabled-spec =
-    tie.close
-    (tie.spec
-    Inv-loop
-    μ-loop
-    (λ c κs. search needs)
-    loop-holds
-    (λ c. omega arith)
-    (λ c. omega arith)
-    returns
-    (λ c. omega arith)
-    (λ c. omega arith)
-    loop-again
-    returns-2)
+any-enabled-spec = tie.close (tie.spec (λ c κs. search needs) (λ c. search needs) (λ c. search needs) returns returns-2)

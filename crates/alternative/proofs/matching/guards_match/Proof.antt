@@ -1,4 +1,3 @@
-use mathlib.Core.Path.{_≡_}
 use borrow.Author.Needs.{needs}
 use Rattle.alternative.specs.Guards.{guardsMatch}
 use Rattle.alternative.proofs.matching.guards_match.Statement.{statement}

@@ -1,4 +1,3 @@
-use mathlib.Core.Path.{_≡_}
 use borrow.Author.Needs.{needs}
 use Rattle.command.proofs.Leading.{part-rest}
 use Rattle.command.proofs.Letters.{line-empty, line-alone, line-with, line-glued}

@@ -1,4 +1,3 @@
-use mathlib.Core.Path.{_≡_}
 use borrow.Author.Needs.{needs}
 use Rattle.command.specs.Commands.{byLetter}
 use Rattle.command.proofs.Letters.{alone-none}

@@ -1,4 +1,3 @@
-use mathlib.Core.Path.{_≡_}
 use native.Mathlib.Omega.{arith}
 use borrow.Author.Needs.{needs}
 use Rattle.command.proofs.Cuts.{number-whole, number-parted}
@@ -15,13 +14,13 @@ returns-2 : tie.Need-returns-2
 returns-2 c =
     let s = c .before .before .before .before .before .before .before .args .s .now in
     let e = c .before .before .before .before .before .field-length .ensures in
-    rw (number-whole s (omega (arith, e, c .before .before .before .before .if1 .left)), ← c .before .before .before .read-number .ensures, c .before .enum-told .given .1) (c .plain-command2 .ensures)
+    rw (number-whole s (omega (arith, e, c .before .before .before .before .if1 .left)), ← c .before .before .before .read-byte-number .ensures, c .before .enum-told .given .1) (c .plain-command2 .ensures)
 
 returns-3 : tie.Need-returns-3
 returns-3 c =
     let s = c .before .before .before .before .before .before .before .before .args .s .now in
     let e = c .before .before .before .before .before .before .field-length .ensures in
-    rw (number-whole s (omega (arith, e, c .before .before .before .before .before .if1 .left)), ← c .before .before .before .before .read-number .ensures, c .before .before .n .given .1) (c .plain-command3 .ensures)
+    rw (number-whole s (omega (arith, e, c .before .before .before .before .before .if1 .left)), ← c .before .before .before .before .read-byte-number .ensures, c .before .before .n .given .1) (c .plain-command3 .ensures)
 
 pub parse-numbered-spec : {M : Type 1} → statement M
 parse-numbered-spec =

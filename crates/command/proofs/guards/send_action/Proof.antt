@@ -1,4 +1,4 @@
-use mathlib.Core.Path.{_≡_, sym}
+use mathlib.Core.Path.{sym}
 use borrow.Author.Needs.{needs}
 use Rattle.command.specs.Commands.{sendOf}
 use Rattle.command.proofs.guards.send_action.Statement.{statement}

@@ -1,4 +1,3 @@
-use mathlib.Core.Path.{_≡_}
 use borrow.Author.Needs.{needs}
 use Rattle.alternative.specs.Guards.{slots, lent}
 use Rattle.command.proofs.lists.no_guards.Statement.{statement}

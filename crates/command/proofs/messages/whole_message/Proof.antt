@@ -1,24 +1,21 @@
-use mathlib.Core.Path.{_≡_, sym, _∙_}
-use mathlib.Core.Option.{some, none}
+use mathlib.Core.Path.{_≡_}
 use borrow.Author.Needs.{needs}
 use mir.Syntax.{w32}
 use mir.Val.{toZ, ofZ}
-use Rattle.text.specs.Reading.{whole}
 use Rattle.command.specs.Commands.{wholeOf}
-use Rattle.command.proofs.Numbers.{as-whole-same}
 use Rattle.command.proofs.messages.whole_message.Statement.{statement}
 use Rattle.command.proofs.messages.whole_message.Tie as tie
 
 returns : tie.Need-returns
 unfolding wholeOf
-returns c = rw (as-whole-same (whole (c .before .before .before .before .args .s .now)) none (sym (c .before .before .read-whole .ensures) ∙ c .enum-told .given .1))
+returns c = rw (← c .before .before .read-whole .ensures, c .enum-told .given .1)
 
 returns-2 : tie.Need-returns-2
 unfolding wholeOf
 returns-2 c =
     let x = c .before .n .given .0 .0 in
     let same : toZ w32 (ofZ w32 x) ≡ x = search needs in
-    rw (same, as-whole-same (whole (c .before .before .before .before .before .args .s .now)) (some x) (sym (c .before .before .before .read-whole .ensures) ∙ c .before .n .given .1))
+    rw (same, ← c .before .before .before .read-whole .ensures, c .before .n .given .1)
 
 pub whole-message-spec : {M : Type 1} → statement M
 whole-message-spec =

@@ -1,19 +1,17 @@
 use Prim.Native.Nat.{ℕ}
-use mathlib.Core.Path.{_≡_, sym, ap, _∙_}
+use mathlib.Core.Path.{sym, ap, _∙_}
 use mathlib.Core.List.{List}
 use borrow.Author.Needs.{needs}
-use lib.ListN.{drop}
 use lib.Seq.{length-take-le}
 use Rattle.command.specs.Commands.{guardsOf, offerOf}
 use Rattle.command.specs.Private.{notSpace, asOffer, fieldsAfter}
 use Rattle.command.proofs.Leading.{leading-within, part-rest}
 use Rattle.command.proofs.Cuts.{fields-cut}
-use Rattle.command.proofs.GuardFields.{offer-parsed}
 use Rattle.command.proofs.offers.parse_offer.Statement.{statement}
 use Rattle.command.proofs.offers.parse_offer.Tie as tie
 
-slice-aggregate-read-number : tie.Need-slice-aggregate-read-number
-slice-aggregate-read-number c =
+slice-aggregate-read-byte-number : tie.Need-slice-aggregate-read-byte-number
+slice-aggregate-read-byte-number c =
     let s = c .before .before .before .args .s .now in
     let n = c .before .field-length in
     sym (length-take-le (n .result) s (leading-within notSpace s (n .result) (n .ensures)))
@@ -28,7 +26,7 @@ returns : tie.Need-returns
 unfolding offerOf
 returns c =
     let s = c .before .before .before .before .before .before .before .args .s .now in
-    rw (fields-cut s, ← c .before .before .before .before .before .field-length .ensures, ← c .before .before .before .read-number .ensures, c .before .enum-told .given .1) (c .plain-command .ensures)
+    rw (fields-cut s, ← c .before .before .before .before .before .field-length .ensures, ← c .before .before .before .read-byte-number .ensures, c .before .enum-told .given .1) (c .plain-command .ensures)
 
 returns-2 : tie.Need-returns-2
 unfolding offerOf
@@ -37,15 +35,15 @@ returns-2 c =
     let n = c .before .before .before .before .before .before .before .field-length in
     let p = c .before .before .before .p .given in
     let rest = ap (λ (bs : List ℕ). asOffer (p .0 .0) (guardsOf (fieldsAfter bs))) (part-rest (n .result) s) in
-    rw (fields-cut s, ← n .ensures, ← c .before .before .before .before .before .read-number .ensures, p .1)
-    (c .offer-of .ensures ∙ rest ∙ offer-parsed (p .0 .0) (guardsOf (fieldsAfter (drop (n .result) s))))
+    rw (fields-cut s, ← n .ensures, ← c .before .before .before .before .before .read-byte-number .ensures, p .1)
+    (c .offer-of .ensures ∙ rest)
 
 pub parse-offer-spec : {M : Type 1} → statement M
 parse-offer-spec =
     tie.close
     (tie.spec
     (λ c κs. search needs)
-    slice-aggregate-read-number
+    slice-aggregate-read-byte-number
     (λ c κs. search needs)
     (λ c. search needs)
     (λ c κs. search needs)

@@ -1,17 +1,19 @@
 use Prim.Native.Nat.{ℕ, _≤_}
 use mathlib.Core.Path.{refl, sym}
+use mathlib.Core.Bool.{false≢true}
+use native.Mathlib.Omega.{arith}
 use borrow.Author.Needs.{needs}
 use borrow.Author.Tests.{lt-leb}
 use lib.ListN.{length, replicate, length-replicate}
 use Rattle.wire.specs.Claims.{Faithful}
-use Rattle.exports.proofs.Sessions.{form-whole, session-long, session-kept, no-true}
+use Rattle.exports.proofs.Sessions.{form-whole, session-long, session-kept}
 use Rattle.exports.proofs.scripts.put_session.Statement.{statement}
 use Rattle.exports.proofs.scripts.put_session.Tie as tie
 
 returns : tie.Need-returns
 returns c =
     let s = c .before .before .before .before .before .before .before .before .before .args .out .now in
-    record { enough = sym (lt-leb 7312 (length s) (c .if1 .taken)); read-back = λ e. absurd (no-true e); behind = refl; short = λ e. refl }
+    record { enough = sym (lt-leb 7312 (length s) (c .if1 .taken)); read-back = λ e. absurd (false≢true e); behind = refl; short = λ e. refl }
 
 returns-2 : tie.Need-returns-2
 returns-2 c =
@@ -26,7 +28,23 @@ returns-2 c =
     let long = session-long s _ (a .good .0) in
     let h : 7312 ≤ length l = t .if1 .left in
     let f : Faithful (s .table) = e .encode .ensures .2 in
-    session-kept s long f l (c .before .before .put-bytes3 .last .0) h (rw (c .before .before .put-bytes3 .ensures, two .put-bytes2 .ensures, one .put-bytes .ensures, k .length-byte .ensures, k .before .flag-byte .ensures, e .encode .ensures .1, form-whole (s .table) (replicate 7109 0) (length-replicate {A = ℕ} 7109 0)))
+    session-kept s long f l (c .before .before .put-bytes3 .last .0) h (rw (c .before .before .put-bytes3 .ensures, two .put-bytes2 .ensures, one .put-bytes .ensures, k .flag-byte .ensures, k .before .least .ensures, e .encode .ensures .1, form-whole (s .table) (replicate 7109 0) (length-replicate {A = ℕ} 7109 0)))
 
 pub put-session-spec : {M : Type 1} → statement M
-put-session-spec = tie.close (tie.spec (λ c. search needs) (λ c κs. search needs) (λ c κs. search needs) (λ c κs. search needs) returns (λ c. search needs) (λ c κs. search needs) (λ c. search needs) (λ c κs. search needs) (λ c. search needs) (λ c κs. search needs) (λ c. search needs) returns-2)
+put-session-spec =
+    tie.close
+    (tie.spec
+    (λ c. search needs)
+    (λ c κs. search needs)
+    (λ c κs. search needs)
+    (λ c. record { fits = omega (arith, c .least .ensures) })
+    (λ c κs. search needs)
+    returns
+    (λ c. search needs)
+    (λ c κs. search needs)
+    (λ c. search needs)
+    (λ c κs. search needs)
+    (λ c. search needs)
+    (λ c κs. search needs)
+    (λ c. search needs)
+    returns-2)

@@ -4,15 +4,9 @@ use lib.Dec.{eqb}
 use borrow.Author.Needs.{needs}
 use Rattle.process.proofs.Place.is_idle.Statement.{statement}
 use Rattle.process.proofs.Place.is_idle.Tie as tie
-use Rattle.process.proofs.Place.is_idle.Reads as reads
-use Rattle.process.proofs.Place.is_idle.Lts as lts
-use Rattle.process.proofs.Place.letter.Reads as letter-reads
-
-letter-requires : tie.Need-letter-requires
-letter-requires c κs = search needs
 
 returns : tie.Need-returns
 returns c = ap (λ (letter : ℕ). eqb letter 73) (c .letter .ensures)
 
 pub is-idle-spec : {M : Type 1} → statement M
-is-idle-spec = tie.close (tie.spec letter-requires returns)
+is-idle-spec = tie.close (tie.spec (λ c κs. search needs) returns)

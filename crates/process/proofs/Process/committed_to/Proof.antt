@@ -1,4 +1,3 @@
-use mathlib.Core.Path.{_≡_}
 use borrow.Author.Needs.{needs}
 use Rattle.process.proofs.Process.committed_to.Statement.{statement}
 use Rattle.process.proofs.Process.committed_to.Tie as tie

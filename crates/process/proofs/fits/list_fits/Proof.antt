@@ -1,6 +1,5 @@
-use Prim.Native.Nat.{_≤_, _-_}
-use mathlib.Core.Logic.{inl}
-use mathlib.Core.Path.{_≡_, refl, sym, _∙_}
+use Prim.Native.Nat.{_-_}
+use mathlib.Core.Path.{_≡_, sym, _∙_}
 use native.Mathlib.Omega.{arith}
 use borrow.Author.Needs.{needs}
 use borrow.Author.Tests.{lt-leb, le-leb, not-true, not-false}
@@ -48,7 +47,7 @@ unfolding allGuards
 returns-3 c =
     let l = c .before in
     let a = l .before .before .args in
-    rw (l .loop .inv .1, rest-end (a .t4) (a .count) (l .loop .k) (inl (omega arith)))
+    rw (l .loop .inv .1, rest-end (a .t4) (a .count) (l .loop .k) (omega arith))
 
 pub list-fits-spec : {M : Type 1} → statement M
 list-fits-spec =

@@ -1,4 +1,3 @@
-use mathlib.Core.Path.{_≡_}
 use borrow.Author.Needs.{needs}
 use Rattle.process.proofs.fits.place_fits.Statement.{statement}
 use Rattle.process.proofs.fits.place_fits.Tie as tie

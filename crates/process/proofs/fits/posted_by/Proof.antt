@@ -1,4 +1,3 @@
-use mathlib.Core.Path.{_≡_}
 use borrow.Author.Tests.{lt-ltb, le-ltb}
 use Rattle.process.proofs.fits.posted_by.Statement.{statement}
 use Rattle.process.proofs.fits.posted_by.Tie as tie

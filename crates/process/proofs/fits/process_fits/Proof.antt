@@ -1,4 +1,3 @@
-use mathlib.Core.Path.{_≡_}
 use borrow.Author.Needs.{needs}
 use Rattle.process.specs.Fits.{processFits}
 use Rattle.process.proofs.fits.process_fits.Statement.{statement}

@@ -1,4 +1,3 @@
-use mathlib.Core.Path.{_≡_}
 use borrow.Author.Needs.{needs}
 use Rattle.process.specs.Rules.{handOver}
 use Rattle.process.proofs.rules.hand_over.Statement.{statement}

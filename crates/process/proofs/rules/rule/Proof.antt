@@ -1,4 +1,3 @@
-use mathlib.Core.Path.{_≡_}
 use borrow.Author.Needs.{needs}
 use Rattle.process.proofs.RuleLaws.{rule-at}
 use Rattle.process.proofs.rules.rule.Statement.{statement}

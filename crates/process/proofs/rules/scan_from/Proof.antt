@@ -1,4 +1,4 @@
-use mathlib.Core.Path.{_≡_, sym, _∙_}
+use mathlib.Core.Path.{sym, _∙_}
 use borrow.Author.Needs.{needs}
 use Rattle.process.specs.Rules.{scanFrom}
 use Rattle.process.proofs.rules.scan_from.Statement.{statement}

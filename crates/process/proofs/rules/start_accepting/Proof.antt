@@ -1,4 +1,3 @@
-use mathlib.Core.Path.{_≡_}
 use borrow.Author.Needs.{needs}
 use Rattle.process.proofs.rules.start_accepting.Statement.{statement}
 use Rattle.process.proofs.rules.start_accepting.Tie as tie

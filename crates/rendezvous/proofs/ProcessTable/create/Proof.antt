@@ -1,4 +1,3 @@
-use mathlib.Core.Path.{_≡_}
 use borrow.Author.Needs.{needs}
 use Rattle.rendezvous.specs.Refusals.{createVerdict}
 use Rattle.rendezvous.specs.Calls.{create}

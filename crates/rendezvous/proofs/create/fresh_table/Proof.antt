@@ -1,4 +1,3 @@
-use mathlib.Core.Path.{_≡_}
 use borrow.Author.Needs.{needs}
 use Rattle.rendezvous.proofs.create.fresh_table.Statement.{statement}
 use Rattle.rendezvous.proofs.create.fresh_table.Tie as tie

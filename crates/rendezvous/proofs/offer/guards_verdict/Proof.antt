@@ -1,5 +1,4 @@
 use Prim.Native.Nat.{_-_}
-use mathlib.Core.Logic.{inl, inr}
 use mathlib.Core.Path.{_≡_, refl, sym, _∙_}
 use native.Mathlib.Omega.{arith}
 use borrow.Author.Needs.{needs}
@@ -28,7 +27,7 @@ unfolding requireGuards
 returns c =
     let l = c .before .before in
     let a = l .before .args in
-    rw (l .loop .inv .1, rest-end (a .t3) (a .count) (l .loop .k) (inr (omega arith)))
+    rw (l .loop .inv .1, rest-end (a .t3) (a .count) (l .loop .k) (omega arith))
 
 returns-2 : tie.Need-returns-2 Inv-loop μ-loop
 unfolding requireGuards
@@ -68,7 +67,7 @@ unfolding requireGuards
 returns-4 c =
     let l = c .before in
     let a = l .before .args in
-    rw (l .loop .inv .1, rest-end (a .t3) (a .count) (l .loop .k) (inl (omega arith)))
+    rw (l .loop .inv .1, rest-end (a .t3) (a .count) (l .loop .k) (omega arith))
 
 pub guards-verdict-spec : {M : Type 1} → statement M
 guards-verdict-spec =

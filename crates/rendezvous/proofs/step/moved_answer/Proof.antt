@@ -1,4 +1,3 @@
-use mathlib.Core.Path.{_≡_}
 use Rattle.rendezvous.proofs.step.moved_answer.Statement.{statement}
 use Rattle.rendezvous.proofs.step.moved_answer.Tie as tie
 

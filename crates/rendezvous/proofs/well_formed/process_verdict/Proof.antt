@@ -1,4 +1,3 @@
-use mathlib.Core.Path.{_≡_}
 use borrow.Author.Tests.{lt-ltb, le-ltb, not-true, not-false}
 use Rattle.rendezvous.proofs.well_formed.process_verdict.Statement.{statement}
 use Rattle.rendezvous.proofs.well_formed.process_verdict.Tie as tie

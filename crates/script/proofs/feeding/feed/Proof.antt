@@ -7,15 +7,16 @@ use native.Mathlib.Omega.{arith}
 use borrow.Author.Needs.{needs}
 use lib.ListN.{length, take, getD, set, length-take, length-set}
 use lib.Seq.{getD-take}
-use Rattle.text.proofs.Kept.{length-mapped}
+use Rattle.text.proofs.Kept.{put-more, put-none}
 use Rattle.rendezvous.specs.WellFormed.{allBelow, countFits, fitsAt}
+use Rattle.rendezvous.proofs.Lengths.{length-mapped}
 use Rattle.rendezvous.proofs.Forms.{formed-start, formed-more, formed-end}
 use Rattle.rendezvous.proofs.Done.{done-both, done-own}
 use Rattle.script.specs.Types.{Reply}
 use Rattle.script.specs.Printing.{endOfLine}
 use Rattle.script.specs.Feeding.{tableOf}
 use Rattle.script.specs.Private.{calledBy}
-use Rattle.script.proofs.Lists.{take-most, put-more, put-none}
+use Rattle.script.proofs.Lists.{take-most}
 use Rattle.script.proofs.Turns.{replyAfter, after-new, after-movers, line-turn, Sized, sized-new}
 use Rattle.script.proofs.Going.{Going, going-start, going-byte, going-line, going-end}
 use Rattle.script.proofs.feeding.feed.Statement.{statement}
@@ -159,7 +160,7 @@ returns c =
     let l = c .before in
     let a = l .before .before .before .before .before .before .before .args in
     let taken = l .before .least2 .result in
-    let bytes : length (a .session .bytes) ≡ 201 = search length-mapped in
+    let bytes : length (a .session .bytes) ≡ 201 = search needs in
     let begun : take (l .before .before .least .result) (a .session .bytes) ≡ take (a .session .length) (a .session .bytes) = rw (l .before .before .least .ensures) (take-most (a .session .bytes) (a .session .length) 201 bytes) in
     let g = l .loop .inv .4 in
     let end : length (take taken (a .piece .now)) ≤ l .loop .i = simp length-take (omega arith) in

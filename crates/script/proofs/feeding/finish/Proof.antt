@@ -3,7 +3,6 @@ use mathlib.Core.Path.{_≡_, sym, ap, _∙_}
 use native.Mathlib.Omega.{arith}
 use borrow.Author.Needs.{needs}
 use lib.ListN.{length, take, length-take}
-use Rattle.text.proofs.Kept.{length-mapped}
 use Rattle.script.specs.Feeding.{stateOf}
 use Rattle.script.proofs.Cuts.{finished-empty, finished-begun}
 use Rattle.script.proofs.feeding.finish.Statement.{statement}
@@ -17,7 +16,7 @@ returns c =
 returns-2 : tie.Need-returns-2
 returns-2 c =
     let s = c .before .before .before .args .session in
-    let h : length (s .bytes) ≡ 201 = search length-mapped in
+    let h : length (s .bytes) ≡ 201 = search needs in
     let n : s .length ≡ 0 → ⊥ = c .before .if1 .left in
     let g : 0 < length (take (s .length) (s .bytes)) = simp length-take (omega arith) in
     c .malformed-line .ensures ∙ sym (finished-begun (stateOf s) g)

@@ -5,7 +5,6 @@ use borrow.Author.Needs.{needs}
 use lib.ListN.{length, length-set}
 use lib.Seq.{paste, paste-zero}
 use Rattle.text.specs.Writing.{shown}
-use Rattle.text.proofs.Kept.{length-mapped}
 use Rattle.script.proofs.Outputs.{copied-more, copied-all}
 use Rattle.script.proofs.output.put.Statement.{statement}
 use Rattle.script.proofs.output.put.Tie as tie
@@ -19,7 +18,7 @@ abbrev μ-loop : tie.MeasureT-loop
 loop-holds : tie.Need-loop-holds Inv-loop μ-loop
 loop-holds c =
     let a = c .before .before .before .args in
-    (omega arith, omega (arith, c .least .ensures), search length-mapped, refl, paste-zero (a .out .now) (a .at) (a .text .bytes))
+    (omega arith, omega (arith, c .least .ensures), search needs, refl, paste-zero (a .out .now) (a .at) (a .text .bytes))
 
 loop-again : tie.Need-loop-again Inv-loop μ-loop
 loop-again c =

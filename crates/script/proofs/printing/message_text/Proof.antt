@@ -1,11 +1,9 @@
 use mathlib.Core.Path.{_≡_}
 use mathlib.Core.List.{append-assoc}
 use borrow.Author.Needs.{needs}
-use native.Mathlib.Omega.{arith}
 use mir.Syntax.{w32}
 use mir.Val.{toZ, ofZ}
 use Rattle.text.proofs.Kept.{kept-kept}
-use Rattle.text.proofs.Integers.{back}
 use Rattle.script.specs.Printing.{messageText}
 use Rattle.script.proofs.printing.message_text.Statement.{statement}
 use Rattle.script.proofs.printing.message_text.Tie as tie
@@ -18,7 +16,7 @@ returns-2 : tie.Need-returns-2
 unfolding messageText
 returns-2 c =
     let m = c .before .before .before in
-    let e : toZ w32 (ofZ w32 (m .m .given .0 .0)) ≡ m .m .given .0 .0 = back (m .m .given .0 .0) (record { sfits = omega (arith, c .before .before .known-told .given) }) in
+    let e : toZ w32 (ofZ w32 (m .m .given .0 .0)) ≡ m .m .given .0 .0 = search needs in
     rw (m .m .given .1) (simp (c .whole .ensures, e, c .before .byte2 .ensures, kept-kept, append-assoc))
 
 returns-3 : tie.Need-returns-3

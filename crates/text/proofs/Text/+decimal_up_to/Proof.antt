@@ -32,42 +32,25 @@ decimal-up-to-below t =
     (falls 0 decimal-up-to-kinds.ps _<_ μ-decimal-up-to t)
     decimal-up-to.Pre
 
-decimal-up-to-returns : (t : ℕ) → decimal-up-to-lts.Need-returns (
-  glyph-reads.Asked,
-  glyph-reads.Learnt,
-  byte-reads.Asked,
-  byte-reads.Learnt,
-  decimal-up-to-below t,
-  decimal-up-to.Post,
-) (decimal-up-to-at t) decimal-up-to.Post
+-- what the calls ask and tell; the call of itself asks that the measure falls
+abbrev claims : ℕ → decimal-up-to-lts.Claims
+claims t = (glyph-reads.Asked, glyph-reads.Learnt, byte-reads.Asked, byte-reads.Learnt, decimal-up-to-below t, decimal-up-to.Post)
+
+decimal-up-to-returns : (t : ℕ) → decimal-up-to-lts.Need-returns (claims t) (decimal-up-to-at t) decimal-up-to.Post
 decimal-up-to-returns t c =
     let a = c .before .before .before .args in
     c .byte .ensures
     ∙ ap (λ (b : ℕ). kept (shown (a .self) ++ b ∷ [])) (c .before .glyph .ensures ∙ glyph-decimal (a .n % 10) (omega arith))
     ∙ ap (λ (l : List ℕ). kept (shown (a .self) ++ l)) (sym (decimal-last (a .k) (a .n) (c .before .before .if1 .taken)))
 
-decimal-up-to-returns-2 : (t : ℕ) → decimal-up-to-lts.Need-returns-2 (
-  glyph-reads.Asked,
-  glyph-reads.Learnt,
-  byte-reads.Asked,
-  byte-reads.Learnt,
-  decimal-up-to-below t,
-  decimal-up-to.Post,
-) (decimal-up-to-at t) decimal-up-to.Post
+decimal-up-to-returns-2 : (t : ℕ) → decimal-up-to-lts.Need-returns-2 (claims t) (decimal-up-to-at t) decimal-up-to.Post
 decimal-up-to-returns-2 t c =
     let a = c .before .before .before .before .args in
     c .byte2 .ensures
     ∙ ap (λ (b : ℕ). kept (shown (a .self) ++ b ∷ [])) (c .before .glyph2 .ensures ∙ glyph-decimal (a .n) (omega arith))
     ∙ ap (λ (l : List ℕ). kept (shown (a .self) ++ l)) (sym (decimal-small (a .k) (a .n) (c .before .before .before .if1 .left) (omega arith)))
 
-decimal-up-to-returns-3 : (t : ℕ) → decimal-up-to-lts.Need-returns-3 (
-  glyph-reads.Asked,
-  glyph-reads.Learnt,
-  byte-reads.Asked,
-  byte-reads.Learnt,
-  decimal-up-to-below t,
-  decimal-up-to.Post,
-) (decimal-up-to-at t) decimal-up-to.Post
+decimal-up-to-returns-3 : (t : ℕ) → decimal-up-to-lts.Need-returns-3 (claims t) (decimal-up-to-at t) decimal-up-to.Post
 decimal-up-to-returns-3 t c =
     let a = c .before .before .before .before .before .args in
     let front = decimalUpTo (a .k - 1) (a .n / 10) in
@@ -78,14 +61,7 @@ decimal-up-to-returns-3 t c =
     ∙ ap (λ (l : List ℕ). kept (shown (a .self) ++ l)) (sym (decimal-large (a .k) (a .n) (c .before .before .before .before .if1 .left) (omega arith)))
 
 pub +decimal-up-to-spec : {M : Type 1} → statement M
-+decimal-up-to-spec = close μ-decimal-up-to λ t. decimal-up-to-lts.spec (
-  glyph-reads.Asked,
-  glyph-reads.Learnt,
-  byte-reads.Asked,
-  byte-reads.Learnt,
-  decimal-up-to-below t,
-  decimal-up-to.Post,
-)
++decimal-up-to-spec = close μ-decimal-up-to λ t. decimal-up-to-lts.spec (claims t)
     (decimal-up-to-at t)
     decimal-up-to.Post
     (λ c κs. search needs)

@@ -4,7 +4,7 @@ use mathlib.Core.List.{List, [], _∷_, _++_}
 use borrow.Author.Needs.{needs}
 use lib.ListN.{length}
 use Rattle.text.specs.Writing.{hexGlyph, hexUpTo, shown, kept}
-use Rattle.text.proofs.Kept.{length-mapped, kept-shown, kept-then}
+use Rattle.text.proofs.Kept.{kept-shown, kept-then}
 use Rattle.text.proofs.Printed.{hex-none, hex-last}
 use borrow.Fn.Kinds.{In}
 use borrow.Fn.PlainCycle.{Measures, is, falls, and}
@@ -26,27 +26,17 @@ abbrev hex-up-to-below : ℕ → In 0 hex-up-to-kinds.ps
 hex-up-to-below t =
     and 0 hex-up-to-kinds.ps (falls 0 hex-up-to-kinds.ps _<_ μ-hex-up-to t) hex-up-to.Pre
 
-hex-up-to-returns : (t : ℕ) → hex-up-to-lts.Need-returns (
-  hex-up-to-below t,
-  hex-up-to.Post,
-  glyph-reads.Asked,
-  glyph-reads.Learnt,
-  byte-reads.Asked,
-  byte-reads.Learnt,
-) (hex-up-to-at t) hex-up-to.Post
+-- what the calls ask and tell; the call of itself asks that the measure falls
+abbrev claims : ℕ → hex-up-to-lts.Claims
+claims t = (hex-up-to-below t, hex-up-to.Post, glyph-reads.Asked, glyph-reads.Learnt, byte-reads.Asked, byte-reads.Learnt)
+
+hex-up-to-returns : (t : ℕ) → hex-up-to-lts.Need-returns (claims t) (hex-up-to-at t) hex-up-to.Post
 hex-up-to-returns t c =
     let a = c .before .args in
-    let h : length (a .self .bytes) ≡ 64 = search length-mapped in
+    let h : length (a .self .bytes) ≡ 64 = search needs in
     sym (ap (λ (l : List ℕ). kept (shown (a .self) ++ l)) (hex-none (a .digits) (a .n) (c .if1 .taken)) ∙ kept-shown (a .self) h)
 
-hex-up-to-returns-2 : (t : ℕ) → hex-up-to-lts.Need-returns-2 (
-  hex-up-to-below t,
-  hex-up-to.Post,
-  glyph-reads.Asked,
-  glyph-reads.Learnt,
-  byte-reads.Asked,
-  byte-reads.Learnt,
-) (hex-up-to-at t) hex-up-to.Post
+hex-up-to-returns-2 : (t : ℕ) → hex-up-to-lts.Need-returns-2 (claims t) (hex-up-to-at t) hex-up-to.Post
 hex-up-to-returns-2 t c =
     let a = c .before .before .before .before .args in
     let d = hexGlyph (a .n % 16) in
@@ -57,14 +47,7 @@ hex-up-to-returns-2 t c =
     ∙ ap (λ (l : List ℕ). kept (shown (a .self) ++ l)) (sym (hex-last (a .digits) (a .n) (c .before .before .before .if1 .left)))
 
 pub +hex-up-to-spec : {M : Type 1} → statement M
-+hex-up-to-spec = close μ-hex-up-to λ t. hex-up-to-lts.spec (
-  hex-up-to-below t,
-  hex-up-to.Post,
-  glyph-reads.Asked,
-  glyph-reads.Learnt,
-  byte-reads.Asked,
-  byte-reads.Learnt,
-)
++hex-up-to-spec = close μ-hex-up-to λ t. hex-up-to-lts.spec (claims t)
     (hex-up-to-at t)
     hex-up-to.Post
     (hex-up-to-returns t)

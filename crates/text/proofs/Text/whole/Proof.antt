@@ -7,7 +7,7 @@ use borrow.Author.Needs.{needs}
 use lib.IntN.{ℤ, pos, natAbs}
 use lib.Signed.{ltZ}
 use Rattle.text.specs.Writing.{decimalText, shown, kept}
-use Rattle.text.proofs.Integers.{back}
+use mir.Facts.{toZ-ofZ}
 use Rattle.text.proofs.Kept.{kept-then}
 use Rattle.text.proofs.Printed.{whole-below, whole-above}
 use Rattle.text.proofs.Text.whole.Statement.{statement}
@@ -16,7 +16,7 @@ use Rattle.text.proofs.Text.whole.Tie as tie
 returns : tie.Need-returns
 returns c =
     let a = c .before .before .before .before .args in
-    let f = back (a .x) (c .before .before .before .before .fits .x) in
+    let f = toZ-ofZ (c .before .before .before .before .fits .x) in
     let u : ltZ (a .x) (pos 0) ≡ true = subst (λ (z : ℤ). ltZ z (pos 0) ≡ true) f (c .before .before .if1 .taken) in
     c .decimal .ensures
     ∙ ap (λ (l : List ℕ). kept (l ++ decimalText (c .before .before .before .magnitude .result))) (c .before .byte .ensures)
@@ -27,7 +27,7 @@ returns c =
 returns-2 : tie.Need-returns-2
 returns-2 c =
     let a = c .before .before .before .args in
-    let f = back (a .x) (c .before .before .before .fits .x) in
+    let f = toZ-ofZ (c .before .before .before .fits .x) in
     let u : ltZ (a .x) (pos 0) ≡ false = subst (λ (z : ℤ). ltZ z (pos 0) ≡ false) f (c .before .if1 .left) in
     c .decimal2 .ensures
     ∙ ap (λ (n : ℕ). kept (shown (a .self) ++ decimalText n)) (c .before .before .magnitude .ensures ∙ ap natAbs f)

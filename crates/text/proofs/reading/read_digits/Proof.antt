@@ -3,12 +3,10 @@ use Prim.Native.Char.{code}
 use mathlib.Core.Path.{_≡_, sym, _∙_, ap}
 use mathlib.Core.Bool.{true}
 use mathlib.Core.List.{List}
-use mathlib.Core.Option.{Option}
 use native.Mathlib.Omega.{arith}
 use borrow.Author.Needs.{needs}
 use borrow.Author.Tests.{not-true, not-false}
 use lib.ListN.{length, getD, drop}
-use Rattle.text.specs.Types.{asNumber}
 use Rattle.text.specs.Reading.{isDigit, decimalFrom}
 use Rattle.text.specs.Private.{inWord}
 use Rattle.text.proofs.Decimals.{digit-range, digit-next, digit-missing, digits-end, too-large, in-word}
@@ -27,7 +25,7 @@ unfolding inWord
 returns c =
     let l = c .before .before .before .before .loop in
     let e = sym (c .before .is-digit .ensures) ∙ not-true _ (c .if1 .taken) in
-    sym (ap (λ (o : Option ℕ). asNumber (inWord o)) (l .inv .2 ∙ digit-missing _ (l .i) (l .a) (c .before .before .before .loop-test .taken) e))
+    sym (ap inWord (l .inv .2 ∙ digit-missing _ (l .i) (l .a) (c .before .before .before .loop-test .taken) e))
 
 -- where the byte at i is a digit
 module _ (c : tie.Else1 Inv-loop μ-loop) where
@@ -50,12 +48,12 @@ module _ (c : tie.Else1 Inv-loop μ-loop) where
   next = c .before .before .before .before .loop .inv .2 ∙ digit-next s i a (c .before .before .before .loop-test .taken) digit
 
 returns-2 : tie.Need-returns-2 Inv-loop μ-loop
-returns-2 c = sym (ap asNumber (ap inWord (next (c .before)) ∙ too-large _ (drop (i (c .before) + 1) (s (c .before))) (omega arith)))
+returns-2 c = sym (ap inWord (next (c .before)) ∙ too-large _ (drop (i (c .before) + 1) (s (c .before))) (omega arith))
 
 returns-3 : tie.Need-returns-3 Inv-loop μ-loop
 returns-3 c =
     let l = c .before .loop in
-    sym (ap asNumber (ap inWord (l .inv .2 ∙ digits-end _ (l .i) (l .a) (c .loop-test .left)) ∙ in-word _ (l .inv .1)))
+    sym (ap inWord (l .inv .2 ∙ digits-end _ (l .i) (l .a) (c .loop-test .left)) ∙ in-word _ (l .inv .1))
 
 pub read-digits-spec : {M : Type 1} → statement M
 read-digits-spec =

@@ -1,13 +1,12 @@
 use Prim.Native.Nat.{ℕ, _+_, _-_, _*_, _^_, _<_, _≤_}
 use mathlib.Core.Path.{_≡_, sym, _∙_, ap}
 use mathlib.Core.List.{List}
-use mathlib.Core.Option.{Option, some, none}
+use mathlib.Core.Option.{some}
 use native.Mathlib.Omega.{arith}
 use borrow.Author.Needs.{needs}
 use lib.ListN.{length, getD, drop}
-use Rattle.text.specs.Types.{asNumber}
+use Rattle.text.specs.Types.{numberRead}
 use Rattle.text.specs.Reading.{hexDigit, hexFrom}
-use Rattle.text.proofs.Options.{as-number-same}
 use Rattle.text.proofs.Hexadecimals.{hex-below, hex-next, hex-missing, hex-end, word-length, word-other, power-next, power-small}
 use Rattle.text.proofs.reading.read_hex_word.Statement.{statement}
 use Rattle.text.proofs.reading.read_hex_word.Tie as tie
@@ -20,20 +19,15 @@ abbrev μ-loop : tie.MeasureT-loop
 μ-loop s a₀ i₀ a i = length s - i
 
 returns : tie.Need-returns Inv-loop μ-loop
-returns c = sym (ap asNumber (word-other (c .before .before .args .s .now) (λ e. omega arith)))
-
--- what a digit's answer tells
-answered : (c : tie.After-hex-digit Inv-loop μ-loop) (o : Option ℕ) → asNumber o ≡ c .hex-digit .result
-    → hexDigit (getD (c .before .before .before .before .before .before .args .s .now) (c .before .before .before .loop .i) 0) ≡ o
-answered c o e = as-number-same _ o (sym (e ∙ c .hex-digit .ensures))
+returns c = sym (word-other (c .before .before .args .s .now) (λ e. omega arith))
 
 returns-2 : tie.Need-returns-2 Inv-loop μ-loop
 returns-2 c =
     let l = c .before .before .before .before .before .loop in
-    let e = answered (c .before .before) none (sym (c .enum-told .given .1)) in
-    sym (ap asNumber (word-length _ (c .before .before .before .before .before .before .if1 .left)
+    let e = sym (c .before .before .hex-digit .ensures) ∙ ap numberRead (c .enum-told .given .1) in
+    sym (word-length _ (c .before .before .before .before .before .before .if1 .left)
     ∙ l .inv .2
-    ∙ hex-missing _ (l .i) (l .a) (c .before .before .before .before .loop-test .taken) e))
+    ∙ hex-missing _ (l .i) (l .a) (c .before .before .before .before .loop-test .taken) e)
 
 -- where the byte at i is the digit d
 module _ (c : tie.After-known-told Inv-loop μ-loop) where
@@ -50,7 +44,7 @@ module _ (c : tie.After-known-told Inv-loop μ-loop) where
   d = c .before .d .given .0 .0
 
   digit : hexDigit (getD s i 0) ≡ some d
-  digit = answered (c .before .before .before) (some d) (sym (c .before .d .given .1))
+  digit = sym (c .before .before .before .hex-digit .ensures) ∙ ap numberRead (c .before .d .given .1)
 
   fits : a * 16 + d < 4294967296
   fits = omega (arith, power-small i (omega arith), hex-below (getD s i 0) d digit)
@@ -66,7 +60,7 @@ module _ (c : tie.After-known-told Inv-loop μ-loop) where
 returns-3 : tie.Need-returns-3 Inv-loop μ-loop
 returns-3 c =
     let l = c .before .loop in
-    sym (ap asNumber (word-length _ (c .before .before .if1 .left) ∙ l .inv .2 ∙ hex-end _ (l .i) (l .a) (c .loop-test .left)))
+    sym (word-length _ (c .before .before .if1 .left) ∙ l .inv .2 ∙ hex-end _ (l .i) (l .a) (c .loop-test .left))
 
 pub read-hex-word-spec : {M : Type 1} → statement M
 read-hex-word-spec =

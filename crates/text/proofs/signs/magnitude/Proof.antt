@@ -7,7 +7,7 @@ use lib.Signed.{nonNeg, ltZ}
 use mir.Syntax.{w32, w64}
 use mir.Val.{SFits, Fits, toZ, ofZ}
 use mir.Facts.{toZ-ofZ, sfits-widen, fits-natAbs}
-use Rattle.text.proofs.Integers.{turned, unturned, back, back-wide}
+use Rattle.text.proofs.Integers.{turned, unturned, back-wide}
 use Rattle.text.proofs.signs.magnitude.Statement.{statement}
 use Rattle.text.proofs.signs.magnitude.Tie as tie
 
@@ -16,13 +16,13 @@ Crosses : ℤ → Type 0
 Crosses z = T (nonNeg z) × Fits w32 (natAbs z)
 
 cast-w : tie.Need-cast-w
-cast-w c = subst (λ (z : ℤ). SFits w64 z) (sym (back _ (c .before .fits .x))) (sfits-widen tt (c .before .fits .x))
+cast-w c = subst (λ (z : ℤ). SFits w64 z) (sym (toZ-ofZ (c .before .fits .x))) (sfits-widen tt (c .before .fits .x))
 
 below-zero : (c : tie.Then1) → pos 0 -ℤ toZ w64 (ofZ w64 (toZ w32 (ofZ w32 (c .before .args .x)))) ≡ pos (natAbs (c .before .args .x))
 below-zero c =
     let x = c .before .args .x in
     let t : ltZ (toZ w32 (ofZ w32 x)) (pos 0) ≡ true = c .if1 .taken in
-    let u : ltZ x (pos 0) ≡ true = subst (λ (z : ℤ). ltZ z (pos 0) ≡ true) (back x (c .before .fits .x)) t in
+    let u : ltZ x (pos 0) ≡ true = subst (λ (z : ℤ). ltZ z (pos 0) ≡ true) (toZ-ofZ (c .before .fits .x)) t in
     ap (λ (z : ℤ). pos 0 -ℤ z) (back-wide x (c .before .fits .x)) ∙ turned x u
 
 sub-result : tie.Need-sub-result
@@ -41,8 +41,8 @@ at-least-zero : (c : tie.Else1) → toZ w32 (ofZ w32 (c .before .args .x)) ≡ p
 at-least-zero c =
     let x = c .before .args .x in
     let t : ltZ (toZ w32 (ofZ w32 x)) (pos 0) ≡ false = c .if1 .left in
-    let u : ltZ x (pos 0) ≡ false = subst (λ (z : ℤ). ltZ z (pos 0) ≡ false) (back x (c .before .fits .x)) t in
-    back x (c .before .fits .x) ∙ unturned x u
+    let u : ltZ x (pos 0) ≡ false = subst (λ (z : ℤ). ltZ z (pos 0) ≡ false) (toZ-ofZ (c .before .fits .x)) t in
+    toZ-ofZ (c .before .fits .x) ∙ unturned x u
 
 cast-result-2 : tie.Need-cast-result-2
 unfolding Crosses

@@ -1,4 +1,5 @@
 use mathlib.Core.Path.{sym, _∙_, ap, subst}
+use mathlib.Core.Option.{some}
 use native.Mathlib.Omega.{arith}
 use borrow.Author.Needs.{needs}
 use borrow.Author.Tests.{lt-ltb, le-ltb, le-leb, lt-leb}
@@ -6,7 +7,6 @@ use lib.IntN.{ℤ, pos, _-ℤ_}
 use mir.Syntax.{w32, w64}
 use mir.Val.{SFits, toZ}
 use mir.Facts.{toZ-ofZ, sfits-widen}
-use Rattle.text.specs.declared.Whole.{Whole}
 use Rattle.text.specs.Private.{negativeOf}
 use Rattle.text.proofs.Integers.{minus-fits, minus-at}
 use Rattle.text.proofs.signs.negative.Statement.{statement}
@@ -30,7 +30,7 @@ unfolding negativeOf
 returns-2 c =
     let n = c .before .before .args .n in
     rw (lt-ltb 0 n (omega arith), le-leb n 2147483648 (omega arith))
-    (ap Whole.Value (toZ-ofZ (cast-t6 c) ∙ toZ-ofZ (sub-t5 c) ∙ minus-at n (omega arith)))
+    (ap some (toZ-ofZ (cast-t6 c) ∙ toZ-ofZ (sub-t5 c) ∙ minus-at n (omega arith)))
 
 returns-3 : tie.Need-returns-3
 unfolding negativeOf

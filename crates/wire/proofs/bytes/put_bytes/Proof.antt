@@ -42,26 +42,11 @@ put-bytes-spec =
     loop-holds
     same-length
     returns
-    (λ
-    c.
-    omega
-    arith)
-    (λ
-    c.
-    omega
-    arith)
-    (λ
-    c.
-    omega
-    arith)
-    (λ
-    c.
-    omega
-    arith)
-    (λ
-    c.
-    omega
-    arith)
+    (λ c. omega arith)
+    (λ c. omega arith)
+    (λ c. omega arith)
+    (λ c. omega arith)
+    (λ c. omega arith)
     loop-again
     same-length-2
     returns-2)

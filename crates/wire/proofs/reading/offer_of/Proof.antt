@@ -16,14 +16,6 @@ returns c =
 
 pub offer-of-spec : {M : Type 1} → statement M
 offer-of-spec = tie.close (tie.spec
-    (λ
-    c
-    κs.
-    search
-    needs)
-    (λ
-    c
-    κs.
-    search
-    needs)
+    (λ c κs. search needs)
+    (λ c κs. search needs)
     returns)

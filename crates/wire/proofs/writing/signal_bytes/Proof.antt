@@ -15,23 +15,9 @@ pub signal-bytes-spec : {M : Type 1} → statement M
 signal-bytes-spec =
     tie.close
     (tie.spec
-    (λ
-    c.
-    search
-    needs)
-    (λ
-    c
-    κs.
-    search
-    needs)
-    (λ
-    c.
-    search
-    needs)
-    (λ
-    c
-    κs.
-    search
-    needs)
+    (λ c. search needs)
+    (λ c κs. search needs)
+    (λ c. search needs)
+    (λ c κs. search needs)
     returns
     returns-2)
