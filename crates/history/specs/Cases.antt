@@ -61,15 +61,15 @@ abbrev at : Char → Option ℕ → Said
 at letter index = place (code letter) index
 
 -- process 0 offers a reading to process 1, which takes it: both collect
-abbrev handOver : ℕ → List Command
-handOver bits =
+abbrev session : ℕ → List Command
+session bits =
     New 2 ∷ offers 0 (send 1 bits ∷ []) ∷ offers 1 (receive 0 ∷ [])
     ∷ steps 0 ∷ steps 0 ∷ steps 0 ∷ steps 0 ∷ steps 0
     ∷ steps 1 ∷ steps 1 ∷ steps 1 ∷ steps 1 ∷ steps 0
     ∷ collects 1 ∷ collects 0 ∷ Movers ∷ []
 
-abbrev handedOver : ℕ → List Said
-handedOver bits =
+abbrev sessionSays : ℕ → List Said
+sessionSays bits =
     made ∷ ticket 0 ∷ ticket 1
     ∷ at "A" (some 0) ∷ at "P" none ∷ at "O" none ∷ at "H" none ∷ at "W" none
     ∷ at "A" (some 0) ∷ at "T" (some 0) ∷ at "C" (some 0) ∷ at "M" none ∷ at "M" none
@@ -93,7 +93,7 @@ starred =
     ∷ case (New 2 ∷ offers 0 (receive 1 ∷ []) ∷ offers 0 (receive 0 ∷ []) ∷ []) (made ∷ ticket 0 ∷ refusal 4 ∷ [])
     -- r7fc00000 gives 5; r80000000 arrives as r80000000
     ∷ case (New 2 ∷ offers 0 (send 1 0x7fc00000 ∷ []) ∷ []) (made ∷ refusal 5 ∷ [])
-    ∷ case (handOver 0x80000000) (handedOver 0x80000000)
+    ∷ case (session 0x80000000) (sessionSays 0x80000000)
     -- only disabled guards: 6; a second offer while open: 11
     ∷ case (New 2 ∷ offers 0 (disabled 1 ∷ disabled 1 ∷ []) ∷ []) (made ∷ refusal 6 ∷ [])
     ∷ case (New 2 ∷ offers 0 (receive 1 ∷ []) ∷ offers 0 (receive 1 ∷ []) ∷ []) (made ∷ ticket 0 ∷ refusal 11 ∷ [])
@@ -105,7 +105,7 @@ starred =
     (New 2 ∷ offers 0 (send 1 0x40970a3d ∷ []) ∷ offers 1 (receive 0 ∷ []) ∷ steps 0 ∷ steps 1 ∷ steps 0 ∷ steps 1 ∷ steps 0 ∷ [])
     (made ∷ ticket 0 ∷ ticket 1 ∷ at "A" (some 0) ∷ at "A" (some 0) ∷ same ∷ at "S" none ∷ at "P" none ∷ [])
     -- the session, whose reading is 4.72
-    ∷ case (handOver 0x40970a3d) (handedOver 0x40970a3d)
+    ∷ case (session 0x40970a3d) (sessionSays 0x40970a3d)
     ∷ []
 
 -- In every starred case the definitions say what document 01 says.
