@@ -2,40 +2,39 @@
    cc -Icrates/exports examples/link/session.c target/staticlib/libexports.a -o target/session-c */
 #include "rendezvous.h"
 #include <stdio.h>
+#include <stdlib.h>
 #include <string.h>
 
 static uint8_t table[RENDEZVOUS_TABLE], after[RENDEZVOUS_TABLE], answer[RENDEZVOUS_ANSWER];
 
-/* The table that a call hands back is the one for the next call. */
-static void next(void) { memcpy(table, after, sizeof table); }
+/* A call with a buffer that is too short does nothing. The table that one hands back is the one for the next call. */
+static void next(bool called) {
+    if (!called) exit(1);
+    memcpy(table, after, sizeof table);
+}
 
 static void step(uint8_t p, int times) {
-    for (int k = 0; k < times; k++) {
-        rendezvous_step(table, sizeof table, p, after, sizeof after, answer, sizeof answer);
-        next();
-    }
+    for (int k = 0; k < times; k++) next(rendezvous_step(table, sizeof table, p, after, sizeof after, answer, sizeof answer));
 }
 
 /* One enabled guard: its partner, whether it sends, and the bits of a reading. */
 static void offer(uint8_t p, uint8_t partner, bool sends, uint32_t bits) {
     uint8_t guard[RENDEZVOUS_GUARD] = {1, partner, sends, sends ? 2 : 0, bits, bits >> 8, bits >> 16, bits >> 24};
-    rendezvous_offer(table, sizeof table, p, guard, sizeof guard, after, sizeof after, answer, sizeof answer);
-    next();
+    next(rendezvous_offer(table, sizeof table, p, guard, sizeof guard, after, sizeof after, answer, sizeof answer));
 }
 
 int main(void) {
     float sent = 4.72f, received;
     uint32_t bits;
     memcpy(&bits, &sent, sizeof bits);
-    rendezvous_create(2, after, sizeof after, answer, sizeof answer);
-    next();
+    next(rendezvous_create(2, after, sizeof after, answer, sizeof answer));
     offer(0, 1, true, bits);
     offer(1, 0, false, 0);
     step(0, 5); /* 0 finds nobody, posts its list and waits */
     step(1, 4); /* 1 finds 0 waiting, commits and takes the reading */
     step(0, 1); /* 0 absorbs the signal */
-    rendezvous_collect(table, sizeof table, 1, after, sizeof after, answer, sizeof answer);
+    next(rendezvous_collect(table, sizeof table, 1, after, sizeof after, answer, sizeof answer));
     memcpy(&received, answer + 4, sizeof received);
     printf("process 1 collects %.2f from process %d\n", received, answer[2]);
-    return answer[0] == 4 && received == sent ? 0 : 1;
+    return answer[0] == 4 && memcmp(&received, &sent, sizeof sent) == 0 ? 0 : 1;
 }

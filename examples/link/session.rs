@@ -18,7 +18,7 @@ fn receives(partner: u8) -> [u8; GUARD] {
 }
 
 fn main() {
-    let sent = 4.72;
+    let sent: f32 = 4.72;
     let (mut table, mut after, mut answer) = ([0; TABLE], [0; TABLE], [0; ANSWER]);
     assert!(create(2, &mut table, &mut answer));
     assert!(offer(&table, 0, &sends(1, sent), &mut after, &mut answer));
@@ -36,5 +36,5 @@ fn main() {
     let [kind, _, partner, _, a, b, c, d, ..] = answer;
     let received = f32::from_le_bytes([a, b, c, d]);
     println!("process 1 collects {received:.2} from process {partner}");
-    assert_eq!((kind, received), (4, sent));
+    assert_eq!((kind, received.to_bits()), (4, sent.to_bits()));
 }
