@@ -34,7 +34,7 @@ lent-back gs h = take-take (length gs) mostGuards (gs ++ replicate mostGuards bl
 
 module _ {t : ProcessTable} (good : Good t) (p : ℕ) where
   -- where no rule reads a partner it is process 0, which is there
-  partner-below : partnerOf (process t p) < t .n
+  pub partner-below : partnerOf (process t p) < t .n
   partner-below = at (indexOf (process t p .place)) refl
     where
       at : (index : Option ℕ) → indexOf (process t p .place) ≡ index → namedBy (process t p) index < t .n

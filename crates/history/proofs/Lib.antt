@@ -4,6 +4,7 @@ pub mod Due
 pub mod EveryCall
 pub mod Facts
 pub mod Followed
+pub mod Formed
 pub mod GoodTable
 pub mod Invariant
 pub mod Keeps

@@ -2,4 +2,5 @@ pub mod Types
 pub mod Run
 pub mod Book
 pub mod Demand3
+pub mod StaysWellFormed
 pub mod Cases
