@@ -49,7 +49,7 @@ reading bits = Reading (ofBits binary32 bits)
 abbrev pub send : ℕ → ℕ → Guard
 send q bits = record { enabled = true; partner = q; action = Send (reading bits) }
 
-abbrev disabled : ℕ → Guard
+abbrev pub disabled : ℕ → Guard
 disabled q = record { enabled = false; partner = q; action = Receive }
 
 -- a fresh table of two processes, but for its next ticket
