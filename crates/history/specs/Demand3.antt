@@ -82,7 +82,7 @@ TicketIsNext b (Step p) says after = Unit {0}
 TicketIsNext b (Collect p) says after = Unit {0}
 
 -- a collection is refused, or gives what was due. "f32 values are compared by their bits": ≡ on messages does so, for the logic's floats are bits but for the one NaN,
--- and refusal 5 keeps NaNs out of every offer.
+-- and refusal 5 keeps NaNs out of every accepted offer.
 abbrev pub OutcomeWasDue : History → Call → Said → History → Type 0
 OutcomeWasDue b (Collect p) says after =
     ((number : ℕ) × (says ≡ refusal number)) ⊎ ((d : Due) × (b .due p ≡ some d) × (says ≡ outcome (d .index) (d .partner) (d .message)))

@@ -35,7 +35,7 @@ placeFits count partnerPosted Showing = true
 placeFits count partnerPosted Asleep = true
 placeFits count partnerPosted Waiting = true
 
--- process p with record x
+-- process p with record x; the process that its guard names at C has posted partnerPosted guards
 unfoldable pub processFits : ℕ → ℕ → Process → ℕ → Bool
 processFits n p x partnerPosted =
     listFits n p (x .count) (x .guards)

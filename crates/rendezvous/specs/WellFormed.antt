@@ -13,7 +13,7 @@ allBelow test (suc n) = allBelow test n && test n
 unfoldable pub countFits : ℕ → Bool
 countFits n = leb 2 n && leb n mostProcesses
 
--- process p fits, where its partner at A, T or C has posted as many guards as that one's record says
+-- process p fits; a kept index at C is held against the posted list of the process that its guard names
 unfoldable pub fitsAt : ProcessTable → ℕ → Bool
 fitsAt t p = let x = process t p in processFits (t .n) p x (process t (partnerOf x) .altcount)
 
