@@ -1,8 +1,10 @@
 -- Not to be believed: forms that inner contracts cite; no contract of a public function does.
-use Prim.Native.Nat.{ℕ}
+use Prim.Native.Nat.{ℕ, _+_}
 use Prim.Native.Char.{code}
 use mathlib.Core.Bool.{Bool, true, false, not, _||_, cond}
-use mathlib.Core.List.{List, [], _∷_}
+use mathlib.Core.List.{List, [], _∷_, _++_}
+use lib.ListN.{length, take, drop}
+use lib.Dec.{leb}
 use Rattle.text.specs.Writing.{decimalText}
 use Rattle.command.specs.declared.Kind.{Kind}
 use Rattle.command.specs.declared.Kind.the-variants.{Malformed}
@@ -43,6 +45,13 @@ calledBy t Kind.Collect n list = collect t n
 calledBy t Malformed n list = record { answer = Unchanged; table = t }
 calledBy t Kind.New n list = record { answer = Unchanged; table = t }
 calledBy t Kind.Movers n list = record { answer = Unchanged; table = t }
+
+-- a text put into an output at index `at`, and the index after it; where there is no room for 64 bytes, nothing is
+abbrev pub putAt : ℕ → List ℕ → List ℕ → List ℕ
+putAt at text out = cond (leb (at + 64) (length out)) (take at out ++ text ++ drop (at + length text) out) out
+
+abbrev pub putEnd : ℕ → List ℕ → List ℕ → ℕ
+putEnd at text out = cond (leb (at + 64) (length out)) (at + length text) at
 
 -- the line of a command's kind and number, and its answer
 unfoldable pub lineText : Kind → ℕ → Answer → List ℕ

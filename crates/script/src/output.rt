@@ -1,10 +1,9 @@
 // A text put into the output.
 use text::Text;
-ghost use Prim.Native.Nat.{_+_, _≤_, min};
+ghost use Prim.Native.Nat.{min};
 ghost use mathlib.Core.Path.{_≡_};
-ghost use mathlib.Core.List.{_++_};
-ghost use lib.ListN.{length, take, drop};
 ghost use Rattle.text.specs.Writing.{shown};
+ghost use Rattle.script.specs.Private.{putAt, putEnd};
 
 // The lesser of two numbers.
 pub fn least(a: usize, b: usize) -> usize
@@ -13,12 +12,18 @@ pub fn least(a: usize, b: usize) -> usize
     if a <= b { a } else { b }
 }
 
-// Writes a text into the output at index `at`, and gives the index after it.
+// Writes a text into the output at index `at`, and gives the index after it. Where there is no room for 64 bytes, the most that a text
+// has, nothing is written.
 pub fn put(out: &mut [u8], at: usize, text: Text) -> usize
-    requires { ⌜ at + 64 ≤ length (now out) ⌝ }
-    ensures { λ r. ⌜ r ≡ at + length (shown text) ⌝ }
-    ensures { λ r. ⌜ now (out .exit) ≡ take at (now (out .entry)) ++ shown text ++ drop r (now (out .entry)) ⌝ }
+    ensures { λ r. ⌜ r ≡ putEnd at (shown text) (now (out .entry)) ⌝ }
+    ensures { λ r. ⌜ now (out .exit) ≡ putAt at (shown text) (now (out .entry)) ⌝ }
 {
+    if out.len() < 64 {
+        return at;
+    }
+    if out.len() - 64 < at {
+        return at;
+    }
     let bytes = text.bytes;
     let count = least(text.length, 64);
     let mut k: usize = 0;

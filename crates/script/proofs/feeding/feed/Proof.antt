@@ -8,6 +8,7 @@ use borrow.Author.Needs.{needs}
 use lib.ListN.{length, take, getD, set, length-take, length-set}
 use lib.Seq.{getD-take}
 use Rattle.text.proofs.Kept.{put-more, put-none}
+use Rattle.text.specs.Writing.{shown}
 use Rattle.rendezvous.specs.WellFormed.{allBelow, countFits, fitsAt}
 use Rattle.rendezvous.proofs.Lengths.{length-mapped}
 use Rattle.rendezvous.proofs.Forms.{formed-start, formed-more, formed-end}
@@ -17,6 +18,7 @@ use Rattle.script.specs.Printing.{endOfLine}
 use Rattle.script.specs.Feeding.{tableOf}
 use Rattle.script.specs.Private.{calledBy}
 use Rattle.script.proofs.Lists.{take-most}
+use Rattle.script.proofs.Outputs.{put-end, put-all}
 use Rattle.script.proofs.Turns.{replyAfter, after-new, after-movers, line-turn, Sized, sized-new}
 use Rattle.script.proofs.Going.{Going, going-start, going-byte, going-line, going-end}
 use Rattle.script.proofs.feeding.feed.Statement.{statement}
@@ -60,9 +62,6 @@ room : (c : tie.In-loop Inv-loop2 μ-loop2 Inv-loop μ-loop) → c .before .loop
 room c =
     let g = c .before .loop .inv .4 in
     omega (arith, c .before .before .least2 .ensures, g .room, g .long)
-
-put-requires : tie.Need-put-requires Inv-loop2 μ-loop2 Inv-loop μ-loop
-put-requires c κs = room (c .before .before .before .before .before .before .before .before .before .before .before .before .before .before .before .before .before .before .before .before)
 
 -- where the kinds meet: the line's act was carried out on the table
 abbrev carriedOut : (c : tie.At-match-came Inv-loop2 μ-loop2 Inv-loop μ-loop) → Reply
@@ -116,13 +115,14 @@ loop-again c =
     let l = w .before in
     let a = l .before .before .before .before .before .before .before .args in
     let inside : l .loop .i < length (take (l .before .least2 .result) (a .piece .now)) = simp length-take (omega (arith, w .loop-test .taken, l .before .least2 .ensures)) in
+    let text = shown (u .before .printed-line .result) in
     let told = line-turn (l .loop .made) (l .loop .table) _ (take (l .loop .held) (l .loop .bytes)) (v .before .line-command .result) (v .ready .result) _ _ (v .before .line-command .ensures) (v .ready .ensures) (replied m) (u .before .printed-line .ensures) (c .made-after .ensures) in (
       omega (arith, w .loop-test .taken),
       omega arith,
       l .loop .inv .2,
       sized-after m,
       going-line _ _ _ _ (l .loop .i) _ _ _ (l .loop .inv .4) inside (sym (getD-take (l .before .least2 .result) (a .piece .now) (l .loop .i) 0 (omega (arith, w .loop-test .taken)))) _ _ _ _
-          (v .before .before .before .if1 .taken) told (room w) (u .put .ensures .0) (u .put .ensures .1),
+          (v .before .before .before .if1 .taken) told (room w) (put-end (l .loop .filled) text (l .loop .out) _ (room w) (u .put .ensures .0)) (put-all (l .loop .filled) text (l .loop .out) _ _ (room w) (u .put .ensures .0) (u .put .ensures .1)),
     )
 
 -- a byte that does not end the line
@@ -224,7 +224,7 @@ feed-spec =
     (λ c. search needs)
     (λ c. search needs)
     (λ c κs. search needs)
-    put-requires
+    (λ c κs. search needs)
     (λ c κs. search needs)
     loop-less
     loop-again
