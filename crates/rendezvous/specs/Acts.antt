@@ -1,5 +1,5 @@
 -- To be believed. A call of one process in two parts, for code that keeps a table in its place: the call's act, from what it reads of the table, and how that is carried out.
--- What it reads: whether the table is well-formed, its number of processes n, its next ticket, the record x of process p, and for a step the record y of the partner q.
+-- It reads whether the table is well-formed, its number of processes n, its next ticket, the record x of process p, and for a step the record y of the partner q.
 use Rattle.process.specs.declared.Signal.{Signal}
 use Rattle.process.specs.declared.Signal.the-variants.{Absent, Present}
 use Rattle.process.specs.declared.Change.{Change}

@@ -1,5 +1,6 @@
-// What each call of one process does, from what it reads of the table. The calls carry it out on their table, and so does who keeps a
-// table in its place: a call by value copies it.
+// What each call of one process does, from what it reads of the table: whether that is well-formed, its number of processes n, its next
+// ticket, the record x of process p, and for a step the record y of the partner q. The calls carry it out on their table, and so does
+// who keeps a table in its place: a call by value copies it.
 use crate::Act;
 use crate::Answer;
 use crate::Refusal;
@@ -55,7 +56,6 @@ fn entered(x: Process, ticket: TransactionId, list: GuardList) -> Process
     }
 }
 
-// For process p with record x, of a table that `formed` says to be well-formed or not, with n processes and the next ticket `next`.
 pub fn offer_act(
     formed: bool,
     n: u8,
@@ -70,7 +70,8 @@ pub fn offer_act(
     match offer_verdict(formed, n, p, list, place, next) {
         Verdict::Refused(refusal) => alone(Answer::Refused(refusal), next, x),
         Verdict::Accepted => {
-            let following = TransactionId(next.0 + 1);
+            let number = next.0 + 1;
+            let following = TransactionId(number);
             alone(Answer::Offered(next), following, entered(x, next, list))
         }
     }
@@ -87,7 +88,6 @@ fn moved_answer(moved: bool, place: Place) -> Answer
     }
 }
 
-// The same, where q with record y is the partner.
 pub fn step_act(
     formed: bool,
     n: u8,

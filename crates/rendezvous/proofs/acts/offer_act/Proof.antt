@@ -5,8 +5,8 @@ use Rattle.rendezvous.proofs.Verdicts.{tests-passed}
 use Rattle.rendezvous.proofs.acts.offer_act.Statement.{statement}
 use Rattle.rendezvous.proofs.acts.offer_act.Tie as tie
 
-add-next : tie.Need-add-t13
-add-next c =
+add-number : tie.Need-add-number
+add-number c =
     let v = c .before .before .before in
     let a = v .before .args in
     let h = tests-passed (a .formed) (a .n) (a .p) (a .list) (a .x .place) (a .next) _ (v .offer-verdict .ensures) (c .before .enum-told .given .1) in
@@ -34,7 +34,7 @@ offer-act-spec =
     (λ c. search needs)
     (λ c κs. search needs)
     (λ c. search needs)
-    add-next
+    add-number
     entered-requires
     (λ c κs. search needs)
     returns
