@@ -2,7 +2,6 @@ pub mod Changes
 pub mod Done
 pub mod Forms
 pub mod Lengths
-pub mod Offers
 pub mod Sets
 pub mod Steps
 pub mod Verdicts

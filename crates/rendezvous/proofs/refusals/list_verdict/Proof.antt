@@ -3,8 +3,8 @@ use borrow.Author.Needs.{needs}
 use borrow.Author.Tests.{lt-leb, le-leb}
 use Rattle.rendezvous.specs.Refusals.{listVerdict}
 use Rattle.rendezvous.proofs.Verdicts.{guards-pass, guards-stop}
-use Rattle.rendezvous.proofs.offer.list_verdict.Statement.{statement}
-use Rattle.rendezvous.proofs.offer.list_verdict.Tie as tie
+use Rattle.rendezvous.proofs.refusals.list_verdict.Statement.{statement}
+use Rattle.rendezvous.proofs.refusals.list_verdict.Tie as tie
 
 returns : tie.Need-returns
 unfolding listVerdict

@@ -1,6 +1,6 @@
 use borrow.Author.Tests.{lt-ltb, le-ltb, not-true, not-false}
-use Rattle.rendezvous.proofs.well_formed.process_verdict.Statement.{statement}
-use Rattle.rendezvous.proofs.well_formed.process_verdict.Tie as tie
+use Rattle.rendezvous.proofs.refusals.process_verdict.Statement.{statement}
+use Rattle.rendezvous.proofs.refusals.process_verdict.Tie as tie
 
 returns : tie.Need-returns
 returns c = rw (not-true (c .before .args .formed) (c .if1 .taken))

@@ -1,7 +1,7 @@
 use borrow.Author.Needs.{needs}
 use Rattle.rendezvous.specs.Calls.{entering}
-use Rattle.rendezvous.proofs.offer.entered.Statement.{statement}
-use Rattle.rendezvous.proofs.offer.entered.Tie as tie
+use Rattle.rendezvous.proofs.acts.entered.Statement.{statement}
+use Rattle.rendezvous.proofs.acts.entered.Tie as tie
 
 returns : tie.Need-returns
 unfolding entering

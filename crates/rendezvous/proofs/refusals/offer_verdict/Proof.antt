@@ -2,8 +2,8 @@ use mathlib.Core.Path.{sym, _∙_}
 use borrow.Author.Needs.{needs}
 use borrow.Author.Tests.{lt-ltb, le-ltb, not-true, not-false}
 use Rattle.rendezvous.proofs.Verdicts.{list-pass, list-stop}
-use Rattle.rendezvous.proofs.offer.offer_verdict.Statement.{statement}
-use Rattle.rendezvous.proofs.offer.offer_verdict.Tie as tie
+use Rattle.rendezvous.proofs.refusals.offer_verdict.Statement.{statement}
+use Rattle.rendezvous.proofs.refusals.offer_verdict.Tie as tie
 
 returns : tie.Need-returns
 returns c = rw (not-true (c .before .args .formed) (c .if1 .taken))

@@ -1,5 +1,5 @@
-use Rattle.rendezvous.proofs.step.moved_answer.Statement.{statement}
-use Rattle.rendezvous.proofs.step.moved_answer.Tie as tie
+use Rattle.rendezvous.proofs.acts.moved_answer.Statement.{statement}
+use Rattle.rendezvous.proofs.acts.moved_answer.Tie as tie
 
 returns : tie.Need-returns
 returns c = rw (c .if1 .taken)

@@ -8,8 +8,8 @@ use Rattle.alternative.specs.Guards.{blank}
 use Rattle.alternative.proofs.Rest.{rest-at, rest-end}
 use Rattle.rendezvous.specs.declared.Verdict.the-variants.{Accepted}
 use Rattle.rendezvous.specs.Refusals.{requireGuards}
-use Rattle.rendezvous.proofs.offer.guards_verdict.Statement.{statement}
-use Rattle.rendezvous.proofs.offer.guards_verdict.Tie as tie
+use Rattle.rendezvous.proofs.refusals.guards_verdict.Statement.{statement}
+use Rattle.rendezvous.proofs.refusals.guards_verdict.Tie as tie
 
 -- the tests of the whole list give what the tests of the rest give
 abbrev Inv-loop : tie.InvT-loop

@@ -2,8 +2,8 @@ use mathlib.Core.Path.{sym, _∙_}
 use borrow.Author.Needs.{needs}
 use borrow.Author.Tests.{lt-ltb, le-ltb, not-true, not-false}
 use Rattle.rendezvous.specs.Refusals.{stateVerdict}
-use Rattle.rendezvous.proofs.offer.state_verdict.Statement.{statement}
-use Rattle.rendezvous.proofs.offer.state_verdict.Tie as tie
+use Rattle.rendezvous.proofs.refusals.state_verdict.Statement.{statement}
+use Rattle.rendezvous.proofs.refusals.state_verdict.Tie as tie
 
 returns : tie.Need-returns
 unfolding stateVerdict
