@@ -12,8 +12,8 @@ use Rattle.process.specs.declared.Place.{Place}
 use Rattle.rendezvous.specs.declared.ProcessTable.{ProcessTable}
 use Rattle.process.specs.Process.{openAt, isOpen, isIdle}
 use Rattle.rendezvous.specs.Table.{process, freshTable}
-use Rattle.rendezvous.specs.Calls.{Quiescent}
 use Rattle.rendezvous.specs.Numbers.{Said}
+use Rattle.rendezvous.proofs.Changes.{rest-still}
 use Rattle.history.specs.Run.{Call, replyTo, saidTo, tableAfter, tableAfterAll}
 use Rattle.history.specs.Book.{Transaction, History, emptyHistory, seen, enter}
 use Rattle.history.specs.Demand3.{bookAfterAll, commitBy, commitsOf, EachCall, EntryJoins, TicketIsNext, OutcomeWasDue, idsOf, AllDiffer, openOffer, Demand3}
@@ -21,7 +21,8 @@ use Rattle.history.proofs.Invariant.{Bound, Good}
 use Rattle.history.proofs.Places.{idle-is}
 use Rattle.history.proofs.Tame.{Held}
 use Rattle.history.proofs.GoodTable.{good-after, fresh-each, good-fresh}
-use Rattle.history.proofs.Rest.{at-rest}
+use Rattle.history.proofs.Formed.{stays-well-formed}
+use Rattle.history.proofs.Rest.{Still, at-rest}
 use Rattle.history.proofs.Due.{offerOf, openOf, listsOf, Agrees, Kept}
 use Rattle.history.proofs.EveryCall.{followed}
 
@@ -37,7 +38,7 @@ pub record ClaimFrom (t : ProcessTable) (b : History) (calls : List Call) : Type
   tickets : EachCall TicketIsNext t b calls
   collections : EachCall OutcomeWasDue t b calls
   opens : (p : ℕ) → openOffer (tableAfterAll t calls) p ≡ book .opened p
-  rests : Quiescent (tableAfterAll t calls) → (p q : ℕ) (o r : Transaction) → (p ≡ q → ⊥)
+  rests : Still (tableAfterAll t calls) → (p q : ℕ) (o r : Transaction) → (p ≡ q → ⊥)
       → openOffer (tableAfterAll t calls) p ≡ some o → openOffer (tableAfterAll t calls) q ≡ some r → offersMatch p (o .guards) q (r .guards) ≡ false
 
 -- a fact of the first call and of the others, which go on from the book that the first one leaves
@@ -108,5 +109,5 @@ demand3 n least most calls =
       tickets = c .tickets;
       collections = c .collections;
       opens = c .opens;
-      rests = c .rests;
+      rests = λ rest. c .rests (rest-still _ (stays-well-formed n least most calls) rest);
     }
