@@ -12,29 +12,33 @@ use Rattle.process.specs.declared.Place.{Place}
 use Rattle.rendezvous.specs.declared.ProcessTable.{ProcessTable}
 use Rattle.process.specs.Process.{openAt, isOpen, isIdle}
 use Rattle.rendezvous.specs.Table.{process, freshTable}
-use Rattle.rendezvous.specs.Calls.{Quiescent}
 use Rattle.rendezvous.specs.Numbers.{Said}
+use Rattle.rendezvous.proofs.Changes.{rest-still}
 use Rattle.history.specs.Run.{Call, replyTo, saidTo, tableAfter, tableAfterAll}
 use Rattle.history.specs.Book.{Transaction, History, emptyHistory, seen, enter}
 use Rattle.history.specs.Demand3.{bookAfterAll, commitBy, commitsOf, EachCall, EntryJoins, TicketIsNext, OutcomeWasDue, idsOf, AllDiffer, openOffer, Demand3}
-use Rattle.history.proofs.Invariant.{Good}
+use Rattle.history.proofs.Invariant.{Bound, Good}
 use Rattle.history.proofs.Places.{idle-is}
+use Rattle.history.proofs.Tame.{Held}
 use Rattle.history.proofs.GoodTable.{good-after, fresh-each, good-fresh}
-use Rattle.history.proofs.Rest.{at-rest}
+use Rattle.history.proofs.Formed.{stays-well-formed}
+use Rattle.history.proofs.Rest.{Still, at-rest}
 use Rattle.history.proofs.Due.{offerOf, openOf, listsOf, Agrees, Kept}
 use Rattle.history.proofs.EveryCall.{followed}
 
--- the claim of demand 3 for one list of calls, from a table t and a book b
-record ClaimFrom (t : ProcessTable) (b : History) (calls : List Call) : Type 0 where
-  book : History
-  never-stuck : bookAfterAll t b calls ≡ some book
+-- the claim of demand 3 for one list of calls, from a table t and a book b; the table after them is good, and the book is kept with it
+pub record ClaimFrom (t : ProcessTable) (b : History) (calls : List Call) : Type 0 where
+  pub book : History
+  pub never-stuck : bookAfterAll t b calls ≡ some book
+  pub good : Good (tableAfterAll t calls)
+  pub kept : Kept (tableAfterAll t calls) book
   run : book .run ≡ b .run ++ commitsOf t calls
   joins : EachCall EntryJoins t b calls
   once : AllDiffer (idsOf (book .run))
   tickets : EachCall TicketIsNext t b calls
   collections : EachCall OutcomeWasDue t b calls
   opens : (p : ℕ) → openOffer (tableAfterAll t calls) p ≡ book .opened p
-  rests : Quiescent (tableAfterAll t calls) → (p q : ℕ) (o r : Transaction) → (p ≡ q → ⊥)
+  rests : Still (tableAfterAll t calls) → (p q : ℕ) (o r : Transaction) → (p ≡ q → ⊥)
       → openOffer (tableAfterAll t calls) p ≡ some o → openOffer (tableAfterAll t calls) q ≡ some r → offersMatch p (o .guards) q (r .guards) ≡ false
 
 -- a fact of the first call and of the others, which go on from the book that the first one leaves
@@ -53,11 +57,13 @@ open-offer t good p = at (ltb p (t .n)) refl (isIdle (process t p .place)) refl
     at false e true f = subst⁻¹ (λ (pl : Place). none ≡ cond (openAt pl (process t p .accepting)) (some (offerOf (process t p))) none) (idle-is (process t p .place) f) refl
     at false e false f = absurd (omega (arith, ltb-false p (t .n) e, good .inv .alone p .there f))
 
-claim-from : (t : ProcessTable) (b : History) → Good t → Kept t b → (calls : List Call) → ClaimFrom t b calls
+pub claim-from : (t : ProcessTable) (b : History) → Good t → Kept t b → (calls : List Call) → ClaimFrom t b calls
 unfolding bookAfterAll commitsOf EachCall tableAfterAll
 claim-from t b good k [] = record {
   book = b;
   never-stuck = refl;
+  good = good;
+  kept = k;
   run = sym (append-nil (b .run));
   joins = tt;
   once = k .once .differ;
@@ -72,6 +78,8 @@ claim-from t b good k (c ∷ cs) =
     record {
       book = rest .book;
       never-stuck = rw (f .entered) (rest .never-stuck);
+      good = rest .good;
+      kept = rest .kept;
       run = rest .run ∙ rw (f .run, append-assoc);
       joins = each-call EntryJoins t b c cs (f .after) (f .entered) (λ r e. f .joins r (append-cancel-left (b .run) (commitBy t c (replyTo t c .answer)) (r ∷ []) (sym (f .run) ∙ e))) (rest .joins);
       once = rest .once;
@@ -81,11 +89,12 @@ claim-from t b good k (c ∷ cs) =
       rests = rest .rests;
     }
 
-fresh-kept : (n : ℕ) → Kept (freshTable n) emptyHistory
+pub fresh-kept : (n : ℕ) → Kept (freshTable n) emptyHistory
 fresh-kept n = record {
   counts = refl;
-  each = λ p. fresh-each (Agrees (listsOf (process (freshTable n))) emptyHistory p) (record { offer = refl; at = refl; told = tt }) (record { offer = refl; at = refl; told = tt }) n p;
+  each = λ p. fresh-each (Agrees (listsOf (process (freshTable n))) emptyHistory p) (record { offer = refl; owed = refl; at = tt; told = tt }) (record { offer = refl; owed = refl; at = tt; told = tt }) n p;
   once = record { differ = tt; unused = λ t l. tt; below = λ p o e. absurd (Option·none-ne-some o e); unmet = λ p o e. tt; apart = λ p q o r ne e. absurd (Option·none-ne-some o e) };
+  awaited = λ p. fresh-each (λ x. Bound x → Held (process (freshTable n)) p) (λ b. absurd (b .shows)) (λ b. absurd (b .shows)) n p;
 }
 
 pub demand3 : Demand3
@@ -100,5 +109,5 @@ demand3 n least most calls =
       tickets = c .tickets;
       collections = c .collections;
       opens = c .opens;
-      rests = c .rests;
+      rests = λ rest. c .rests (rest-still _ (stays-well-formed n least most calls) rest);
     }

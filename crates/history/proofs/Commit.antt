@@ -24,15 +24,17 @@ use Rattle.rendezvous.specs.Calls.{applied, effectOn, stepped}
 use Rattle.history.specs.Run.{Step}
 use Rattle.history.specs.Book.{Transaction, Rendezvous, History, sendersMessage, dueMessage, withRendezvous, committing, enter}
 use Rattle.history.specs.Demand3.{Joins}
+use Rattle.history.specs.NothingLost.{isOwed}
 use Rattle.history.proofs.View.{View}
-use Rattle.history.proofs.Invariant.{Shows, Good}
+use Rattle.history.proofs.Invariant.{Shows, Bound, Good}
 use Rattle.history.proofs.Matches.{Match, match, Searched, searched, on-there, NamesOther}
 use Rattle.history.proofs.Places.{shows-elim}
 use Rattle.history.proofs.Facts.{fine, at-names, shown, accepts, commit-binds, unbound}
 use Rattle.history.proofs.GoodTable.{put-two}
 use Rattle.history.proofs.Once.{once-commits}
-use Rattle.history.proofs.Due.{offerOf, listsOf, DueAt, Agrees, KeptOf, Kept, agrees-other, offer-at, each-two}
-use Rattle.history.proofs.Followed.{Followed, stays, moves, scans, scan-followed, absorbs, signals}
+use Rattle.history.proofs.Awaited.{awaited-commit}
+use Rattle.history.proofs.Due.{offerOf, listsOf, DueAt, Agrees, KeptOf, Kept, agrees-other, offer-at, owed-at, each-two}
+use Rattle.history.proofs.Followed.{Followed, stays, hidden, moves, scans, scan-followed, absorbs, signals}
 
 -- the book's messages are rule 9's
 mine-message : (g h : Action) → dueMessage g (sendersMessage g h) ≡ receivedBy g h
@@ -78,6 +80,7 @@ module _ {t : ProcessTable} (good : Good t) {b : History} (k : Kept t b) (p : �
       counts = k .counts;
       each = each-two (process t) after p q _ _ refl refl mine theirs others;
       once = once-commits (k .once) p q (offerOf x) (offerOf y) _ (partner .other) open-p open-q refl refl;
+      awaited = awaited-commit (process t) (k .awaited) p q i j (partner .other) refl shows e;
     });
   }
     where
@@ -132,6 +135,7 @@ module _ {t : ProcessTable} (good : Good t) {b : History} (k : Kept t b) (p : �
       mine : Agrees (listsOf (process t)) after p (atPlace x (Committed i j))
       mine = record {
         offer = rw (eq-eqb p p refl) refl;
+        owed = rw (eq-eqb p p refl) refl;
         at = record {
           mine = rw (eq-eqb p p refl, mine-message (g .action) (h .action));
           theirs = rw (ne-eqb q p apart, eq-eqb q q refl, theirs-message (g .action) (h .action) (m .one-sends));
@@ -142,6 +146,7 @@ module _ {t : ProcessTable} (good : Good t) {b : History} (k : Kept t b) (p : �
       theirs : Agrees (listsOf (process t)) after q (withAccepting y false)
       theirs = record {
         offer = shows-open (y .place) false (offerOf y) shows ∙ rw (ne-eqb q p apart, eq-eqb q q refl) refl;
+        owed = rw (ne-eqb q p apart, eq-eqb q q refl) (shows-elim (λ l. true ≡ isOwed l false) refl refl (y .place) shows);
         at = shows-elim (DueAt (listsOf (process t)) (after .due) q (ownList y)) tt tt (y .place) shows;
         told = rw (shown (process t) (good .inv) q shows .deaf accepting) tt;
       }
@@ -163,22 +168,26 @@ module _ {t : ProcessTable} (good : Good t) {b : History} (k : Kept t b) (p : �
       → (found : Found) → firstMatch p (ownGuard (process t p) i) q (postedList (process t q)) ≡ found
       → Followed t b (Step p) (applied t p q (try (process t p) i (process t q) accepting found))
   tries i e true a (At j) f = commits good k p below i j e a f
-  tries i e true a Missing f = scans good k p below _ (suc i) (offer-at (k .each p) e)
-  tries i e false a (At j) f = scans good k p below _ (suc i) (offer-at (k .each p) e)
-  tries i e false a Missing f = scans good k p below _ (suc i) (offer-at (k .each p) e)
+  tries i e true a Missing f = scans good k p below _ e (offer-at (k .each p) e) (owed-at (k .each p) e) (λ i j c. c) _ (suc i)
+  tries i e false a (At j) f = scans good k p below _ e (offer-at (k .each p) e) (owed-at (k .each p) e) (λ i j c. c) _ (suc i)
+  tries i e false a Missing f = scans good k p below _ e (offer-at (k .each p) e) (owed-at (k .each p) e) (λ i j c. c) _ (suc i)
 
   step-at : (place : Place) → process t p .place ≡ place → let q = namedBy (process t p) (indexOf place) in
       Followed t b (Step p) (applied t p q (ruleAt p (process t p) q (process t q) place))
   step-at Idle e = stays good k p below
-  step-at Entering e = scans good k p below _ 0 (offer-at (k .each p) e)
+  step-at Entering e = scans good k p below _ e (offer-at (k .each p) e) (owed-at (k .each p) e) (λ i j c. c) _ 0
   step-at (Scanning i) e = scan-followed good k p below i e
       (stateOf (process t (ownGuard (process t p) i .partner) .place)) (ltb (process t (ownGuard (process t p) i .partner) .transaction .0) (process t p .transaction .0))
   step-at (Trying i) e = tries i e _ refl _ refl
   step-at (Committed i j) e = signals good k p below i j e
-  step-at Posting e = moves good k p below _ refl refl refl (offer-at (k .each p) e) tt (k .each p .told)
-  step-at Opening e = moves good k p below _ refl refl refl (offer-at (k .each p) e) tt (k .each p .told)
-  step-at Showing e = moves good k p below _ refl refl refl (offer-at (k .each p) e) tt (k .each p .told)
-  step-at Asleep e = scans good k p below _ 0 (offer-at (k .each p) e)
+  step-at Posting e = moves good k p below _ e _ (search (offer-at (k .each p) e, owed-at (k .each p) e, k .each p .told, hidden good k p below))
+  step-at Opening e =
+      let bound : (x : Process) → x .accepting ≡ true → Bound x → Bound (process t p) = λ x a b. absurd (true≢false (sym a ∙ b .woken)) in
+      moves good k p below _ e _ (search (offer-at (k .each p) e, owed-at (k .each p) e, k .each p .told, bound))
+  step-at Showing e =
+      let bound : Bound (atPlace (process t p) Waiting) → Bound (process t p) = λ b. record { shows = rw e tt; woken = b .woken; deaf = b .deaf } in
+      moves good k p below _ e _ (search (offer-at (k .each p) e, owed-at (k .each p) e, k .each p .told, bound))
+  step-at Asleep e = scans good k p below _ e (offer-at (k .each p) e) (owed-at (k .each p) e) (λ i j c. c) _ 0
   step-at Waiting e = absorbs good k p below e (process t p .signal) refl
   step-at (Met i m) e = stays good k p below
 

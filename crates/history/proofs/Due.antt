@@ -1,7 +1,7 @@
 -- How a book goes with a table: the same next ticket and open offers, and each outcome of a rendezvous due from its commit to its collection.
 use Prim.Native.Nat.{ℕ}
 use mathlib.Core.Path.{_≡_, refl, sym, _∙_, subst, fun-ext}
-use mathlib.Core.Bool.{cond}
+use mathlib.Core.Bool.{Bool, false, cond, true≢false}
 use mathlib.Core.List.{List}
 use mathlib.Core.Option.{Option, some, none}
 use lib.ListN.{getD}
@@ -17,8 +17,10 @@ use Rattle.rendezvous.specs.declared.ProcessTable.{ProcessTable}
 use Rattle.process.specs.Process.{ownList, ownGuard, openAt, isOpen}
 use Rattle.rendezvous.specs.Table.{process}
 use Rattle.history.specs.Book.{Transaction, Due, History}
+use Rattle.history.specs.NothingLost.{isOwed, isDue}
 use Rattle.history.proofs.View.{View, upd, entered-each}
 use Rattle.history.proofs.Once.{Once}
+use Rattle.history.proofs.Awaited.{Awaited}
 
 -- the offer of a process with record x, and if it is open
 abbrev pub offerOf : Process → Transaction
@@ -38,7 +40,7 @@ pub record Pledged (lists : ℕ → List Guard) (due : ℕ → Option Due) (p i 
 
 -- due by the place of p, whose own list is gs; at the other places nothing is asked
 abbrev pub DueAt : (ℕ → List Guard) → (ℕ → Option Due) → ℕ → List Guard → Place → Type 0
-DueAt lists due p gs Idle = due p ≡ none
+DueAt lists due p gs Idle = Unit {0}
 DueAt lists due p gs Entering = Unit {0}
 DueAt lists due p gs (Scanning i) = Unit {0}
 DueAt lists due p gs (Trying i) = Unit {0}
@@ -58,6 +60,7 @@ DueBy gs (Present j m) d = d ≡ some (record { index = j; partner = getD gs j b
 -- a book and process p with record x, among lists of the processes
 pub record Agrees (lists : ℕ → List Guard) (b : History) (p : ℕ) (x : Process) : Type 0 where
   pub offer : openOf x ≡ b .opened p
+  pub owed : isDue (b .due p) ≡ isOwed (x .place) (x .accepting)
   pub at : DueAt lists (b .due) p (ownList x) (x .place)
   pub told : DueBy (ownList x) (x .signal) (b .due p)
 
@@ -65,14 +68,23 @@ pub record KeptOf (next : ℕ) (v : View) (b : History) : Type 0 where
   pub counts : b .next ≡ next
   pub each : (p : ℕ) → Agrees (listsOf v) b p (v p)
   pub once : Once (b .next) (b .opened) (b .run)
+  pub awaited : Awaited v
 
 abbrev pub Kept : ProcessTable → History → Type 0
 Kept t b = KeptOf (t .next .0) (process t) b
+
+-- nothing is due
+pub none-due : (d : Option Due) → isDue d ≡ false → d ≡ none
+none-due none e = refl
+none-due (some d) e = absurd (true≢false e)
 
 -- what the book has for a process at a place
 module _ {lists : ℕ → List Guard} {b : History} {p : ℕ} {x : Process} (a : Agrees lists b p x) {place : Place} (e : x .place ≡ place) where
   pub offer-at : cond (openAt place (x .accepting)) (some (offerOf x)) none ≡ b .opened p
   offer-at = subst (λ (l : Place). cond (openAt l (x .accepting)) (some (offerOf x)) none ≡ b .opened p) e (a .offer)
+
+  pub owed-at : isDue (b .due p) ≡ isOwed place (x .accepting)
+  owed-at = subst (λ (l : Place). isDue (b .due p) ≡ isOwed l (x .accepting)) e (a .owed)
 
   pub due-at : DueAt lists (b .due) p (ownList x) place
   due-at = subst (λ (l : Place). DueAt lists (b .due) p (ownList x) l) e (a .at)
@@ -82,7 +94,7 @@ module _ (lists lists' : ℕ → List Guard) (due due' : ℕ → Option Due) (p 
   at-other : (gs : List Guard) (place : Place)
       → ((i j : ℕ) → place ≡ Committed i j → (lists' (getD gs i blank .partner) ≡ lists (getD gs i blank .partner)) × (due' (getD gs i blank .partner) ≡ due (getD gs i blank .partner)))
       → DueAt lists due p gs place → DueAt lists' due' p gs place
-  at-other gs Idle h d = same ∙ d
+  at-other gs Idle h d = tt
   at-other gs Entering h d = tt
   at-other gs (Scanning i) h d = tt
   at-other gs (Trying i) h d = tt
@@ -99,6 +111,7 @@ pub agrees-other : (lists lists' : ℕ → List Guard) (b b' : History) (p : ℕ
     → Agrees lists b p x → Agrees lists' b' p x
 agrees-other lists lists' b b' p x o d h a = record {
   offer = a .offer ∙ sym o;
+  owed = rw d (a .owed);
   at = at-other lists lists' (b .due) (b' .due) p d (ownList x) (x .place) h (a .at);
   told = rw d (a .told);
 }

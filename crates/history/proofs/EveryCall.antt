@@ -27,7 +27,8 @@ use Rattle.history.proofs.Facts.{fine, unbound}
 use Rattle.history.proofs.Replies.{offer-elim, step-elim, collect-elim}
 use Rattle.history.proofs.GoodTable.{lent-back, put-one}
 use Rattle.history.proofs.Once.{once-offers}
-use Rattle.history.proofs.Due.{listsOf, Agrees, KeptOf, Kept, offer-at, due-at, agrees-other, lists-same}
+use Rattle.history.proofs.Awaited.{awaited-put}
+use Rattle.history.proofs.Due.{listsOf, Agrees, KeptOf, Kept, none-due, offer-at, owed-at, due-at, agrees-other, lists-same}
 use Rattle.history.proofs.Followed.{Followed, joins-none, turned-away}
 use Rattle.history.proofs.Commit.{step-followed}
 
@@ -36,7 +37,7 @@ module _ {t : ProcessTable} (good : Good t) {b : History} (k : Kept t b) (p : �
   unfolding enter offered entering lent
   offer-followed gs a = record {
     after = after;
-    entered = rw (← offer-at (k .each p) idle, due-at (k .each p) idle);
+    entered = rw (← offer-at (k .each p) idle, none-due (b .due p) (owed-at (k .each p) idle));
     run = sym (append-nil (b .run));
     joins = joins-none b;
     ticket = inr (ap ticket (sym (k .counts)));
@@ -45,6 +46,7 @@ module _ {t : ProcessTable} (good : Good t) {b : History} (k : Kept t b) (p : �
       counts = omega (arith, k .counts);
       each = entered-each (Agrees (listsOf (upd (process t) p x)) after) (process t) p x own others;
       once = once-offers (k .once) p gs;
+      awaited = awaited-put (process t) (k .awaited) p x (λ h. absurd (h .shows)) (λ i j c _. rw idle at c);
     });
   }
     where
@@ -64,6 +66,7 @@ module _ {t : ProcessTable} (good : Good t) {b : History} (k : Kept t b) (p : �
       own : Agrees (listsOf (upd (process t) p x)) after p x
       own = record {
         offer = rw (list, eq-eqb p p refl, k .counts);
+        owed = owed-at (k .each p) idle;
         at = tt;
         told = rw (fine (process t) (good .inv) p _ idle .1) tt;
       }
@@ -86,6 +89,7 @@ module _ {t : ProcessTable} (good : Good t) {b : History} (k : Kept t b) (p : �
       counts = k .counts;
       each = rw (lists-same (process t) p x refl) (entered-each (Agrees (listsOf (process t)) after) (process t) p x own others);
       once = k .once;
+      awaited = awaited-put (process t) (k .awaited) p x (λ h. absurd (h .shows)) (λ i j c _. rw e at c);
     });
   }
     where
@@ -96,7 +100,7 @@ module _ {t : ProcessTable} (good : Good t) {b : History} (k : Kept t b) (p : �
       after = record { next = b .next; opened = b .opened; due = enteredFor p none (b .due); run = b .run }
 
       own : Agrees (listsOf (process t)) after p x
-      own = record { offer = offer-at (k .each p) e; at = rw (eq-eqb p p refl) refl; told = rw (fine (process t) (good .inv) p _ e .1) tt }
+      own = record { offer = offer-at (k .each p) e; owed = rw (eq-eqb p p refl) refl; at = tt; told = rw (fine (process t) (good .inv) p _ e .1) tt }
 
       -- no process has committed to p
       others : (r : ℕ) → (r ≡ p → ⊥) → Agrees (listsOf (process t)) after r (process t r)

@@ -13,6 +13,7 @@ use Rattle.alternative.specs.declared.Found.the-variants.{At, Missing}
 use Rattle.alternative.specs.Guards.{nextEnabled}
 use Rattle.process.specs.declared.Signal.{Signal}
 use Rattle.process.specs.declared.Signal.the-variants.{Absent, Present}
+use Rattle.process.specs.declared.Place.{Place}
 use Rattle.process.specs.declared.Place.the-variants.{Scanning, Committed, Waiting}
 use Rattle.process.specs.declared.State.{State}
 use Rattle.process.specs.declared.State.the-variants.{Running, Alt, Sleeping}
@@ -28,14 +29,16 @@ use Rattle.rendezvous.specs.Calls.{refused, applied}
 use Rattle.rendezvous.specs.Numbers.{refusalNumber, said}
 use Rattle.history.specs.Run.{Call, Offer, Step, Collect}
 use Rattle.history.specs.Book.{Rendezvous, History, seen, stepping, enter}
+use Rattle.history.specs.NothingLost.{isDue}
 use Rattle.history.specs.Demand3.{commitAt, commitBy, Joins, TicketIsNext, OutcomeWasDue}
 use Rattle.history.proofs.View.{View, entered-each}
-use Rattle.history.proofs.Invariant.{Good}
+use Rattle.history.proofs.Invariant.{Commits, Shows, Bound, Good}
 use Rattle.history.proofs.Matches.{match}
 use Rattle.history.proofs.Places.{told-woken}
 use Rattle.history.proofs.Facts.{fine, at-names, shown, commit-binds}
 use Rattle.history.proofs.GoodTable.{put-one, put-two}
-use Rattle.history.proofs.Due.{offerOf, openOf, listsOf, DueAt, DueBy, Agrees, KeptOf, Kept, lists-same, offer-at, due-at, each-two}
+use Rattle.history.proofs.Awaited.{awaited-put, awaited-signal}
+use Rattle.history.proofs.Due.{offerOf, listsOf, DueBy, Agrees, KeptOf, Kept, lists-same, offer-at, owed-at, due-at, each-two}
 
 -- the book follows a call on table t: it is not stuck, it has the rendezvous, ticket or outcome of the call, and it goes with the table handed back
 pub record Followed (t : ProcessTable) (b : History) (c : Call) (reply : Reply) : Type 0 where
@@ -62,44 +65,58 @@ turned-away t b (Offer p gs) k r = enters-nothing _ _ refl refl (inl (refusalNum
 turned-away t b (Step p) k r = enters-nothing _ _ refl refl tt tt k
 turned-away t b (Collect p) k r = enters-nothing _ _ refl refl tt (inl (refusalNumber r, refl)) k
 
+-- p moves from place pl to the new record x, with its list: no commit is entered, the book goes with the record, p was not at C, and x is bound only if the old record was
+pub record Moving (t : ProcessTable) (b : History) (p : ℕ) (pl : Place) (x : Process) : Type 0 where
+  pub passed : stepping b p (eqb (letterOf (x .place)) (code "C")) (indexOf (x .place)) ≡ some b
+  pub none : commitAt t p (x .place) ≡ []
+  pub list : ownList x ≡ ownList (process t p)
+  pub agrees : Agrees (listsOf (process t)) b p x
+  pub uncommitted : (i j : ℕ) → Commits pl i j → ⊥
+  pub bound : Bound x → Bound (process t p)
+
 module _ {t : ProcessTable} (good : Good t) {b : History} (k : Kept t b) (p : ℕ) (below : p < t .n) where
   pub stays : Followed t b (Step p) (record { answer = Unchanged; table = t })
   unfolding enter
   stays = enters-nothing _ _ refl refl tt tt k
 
-  -- one record is new, with the list of the old
-  pub moves : (x : Process) → stepping b p (eqb (letterOf (x .place)) (code "C")) (indexOf (x .place)) ≡ some b → commitAt t p (x .place) ≡ [] → ownList x ≡ ownList (process t p)
-      → openOf x ≡ b .opened p → DueAt (listsOf (process t)) (b .due) p (ownList x) (x .place) → DueBy (ownList x) (x .signal) (b .due p)
-      → Followed t b (Step p) (record { answer = Moved (x .place); table = put t p x })
+  -- a record at neither H nor W is not bound
+  pub hidden : (x : Process) → (Shows (x .place) → ⊥) → Bound x → Bound (process t p)
+  hidden x hides b = absurd (hides (b .shows))
+
+  -- one record is new
+  pub moves : (pl : Place) → process t p .place ≡ pl → (x : Process) → Moving t b p pl x → Followed t b (Step p) (record { answer = Moved (x .place); table = put t p x })
   unfolding enter
-  moves x e c l o d s = enters-nothing _ _ e c tt tt (subst⁻¹ (λ (v : View). KeptOf (t .next .0) v b) (put-one good p x below) (record {
+  moves pl e x m = enters-nothing _ _ (m .passed) (m .none) tt tt (subst⁻¹ (λ (v : View). KeptOf (t .next .0) v b) (put-one good p x below) (record {
     counts = k .counts;
-    each = rw (lists-same (process t) p x l) (entered-each (Agrees (listsOf (process t)) b) (process t) p x (record { offer = o; at = d; told = s }) (λ r _. k .each r));
+    each = rw (lists-same (process t) p x (m .list)) (entered-each (Agrees (listsOf (process t)) b) (process t) p x (m .agrees) (λ r _. k .each r));
     once = k .once;
+    awaited = awaited-put (process t) (k .awaited) p x (λ b. k .awaited p (m .bound b)) (λ i j c _. m .uncommitted i j (rw e at c));
   }))
 
   -- the scan goes on
-  pub scans : (q i : ℕ) → some (offerOf (process t p)) ≡ b .opened p → Followed t b (Step p) (applied t p q (scanFrom (process t p) i))
+  pub scans : (pl : Place) → process t p .place ≡ pl → some (offerOf (process t p)) ≡ b .opened p → isDue (b .due p) ≡ false → ((i j : ℕ) → Commits pl i j → ⊥)
+      → (q i : ℕ) → Followed t b (Step p) (applied t p q (scanFrom (process t p) i))
   unfolding scanFrom
-  scans q i o = go (nextEnabled (ownList (process t p)) i)
+  scans pl e o w c q i = go (nextEnabled (ownList (process t p)) i)
     where
       go : (f : Found) → Followed t b (Step p) (applied t p q (Own (atPlace (process t p) (scanAt f))))
-      go (At i) = moves _ refl refl refl o tt (k .each p .told)
-      go Missing = moves _ refl refl refl o tt (k .each p .told)
+      go (At i) = moves pl e _ (search (o, w, c, k .each p .told, hidden))
+      go Missing = moves pl e _ (search (o, w, c, k .each p .told, hidden))
 
   pub scan-followed : (i : ℕ) → process t p .place ≡ Scanning i → (w : State) (older : Bool)
       → Followed t b (Step p) (applied t p (ownGuard (process t p) i .partner) (scan (process t p) i w older))
-  scan-followed i e Running older = scans _ (suc i) (offer-at (k .each p) e)
-  scan-followed i e Sleeping older = scans _ (suc i) (offer-at (k .each p) e)
-  scan-followed i e State.Waiting older = moves _ refl refl refl (offer-at (k .each p) e) tt (k .each p .told)
-  scan-followed i e Alt true = moves _ refl refl refl (offer-at (k .each p) e) tt (k .each p .told)
+  scan-followed i e Running older = scans _ e (offer-at (k .each p) e) (owed-at (k .each p) e) (λ i j c. c) _ (suc i)
+  scan-followed i e Sleeping older = scans _ e (offer-at (k .each p) e) (owed-at (k .each p) e) (λ i j c. c) _ (suc i)
+  scan-followed i e State.Waiting older = moves _ e _ (search (offer-at (k .each p) e, owed-at (k .each p) e, k .each p .told, hidden))
+  scan-followed i e Alt true = moves _ e _ (search (offer-at (k .each p) e, owed-at (k .each p) e, k .each p .told, hidden))
   scan-followed i e Alt false = stays
 
   pub absorbs : process t p .place ≡ Waiting → (s : Signal) → process t p .signal ≡ s → Followed t b (Step p) (applied t p 0 (absorb (process t p) s))
   absorbs e Absent f = stays
-  absorbs e (Present j m) f = moves _ refl refl refl
-      (rw (told-woken _ _ j m (fine (process t) (good .inv) p _ e .deaf) f) at (offer-at (k .each p) e))
-      (subst (λ (s : Signal). DueBy (ownList (process t p)) s (b .due p)) f (k .each p .told)) tt
+  absorbs e (Present j m) f =
+      let woken = told-woken _ _ j m (fine (process t) (good .inv) p _ e .deaf) f in
+      let due = subst (λ (s : Signal). DueBy (ownList (process t p)) s (b .due p)) f (k .each p .told) in
+      moves _ e _ (search (rw woken at (offer-at (k .each p) e), rw woken at (owed-at (k .each p) e), due, hidden))
 
   -- rule 9: what was pledged is handed over
   pub signals : (i j : ℕ) → process t p .place ≡ Committed i j
@@ -112,8 +129,9 @@ module _ {t : ProcessTable} (good : Good t) {b : History} (k : Kept t b) (p : �
       enters-nothing _ _ refl refl tt tt (subst⁻¹ (λ (v : View). KeptOf (t .next .0) v b) (put-two good p _ below q _ (at-names (process t) (good .inv) p i (rw e refl) .below)) (record {
         counts = k .counts;
         each = each-two (process t) b p q _ _ refl refl
-            (record { offer = offer-at (k .each p) e; at = rw (shown (process t) (good .inv) q (binds .0 .shows) .posted) (due .mine); told = k .each p .told })
-            (record { offer = k .each q .offer; at = k .each q .at; told = rw (match (binds .1) .back) (due .theirs) })
+            (record { offer = offer-at (k .each p) e; owed = owed-at (k .each p) e; at = rw (shown (process t) (good .inv) q (binds .0 .shows) .posted) (due .mine); told = k .each p .told })
+            (record { offer = k .each q .offer; owed = k .each q .owed; at = k .each q .at; told = rw (match (binds .1) .back) (due .theirs) })
             (λ r _ _. k .each r);
         once = k .once;
+        awaited = awaited-signal (process t) (k .awaited) p q i j (at-names (process t) (good .inv) p i (rw e refl) .other) refl (binds .0 .shows) e _ _;
       }))

@@ -1,3 +1,4 @@
+pub mod Awaited
 pub mod Claimed
 pub mod Commit
 pub mod Due
@@ -9,6 +10,7 @@ pub mod GoodTable
 pub mod Invariant
 pub mod Keeps
 pub mod Matches
+pub mod NothingLost
 pub mod Once
 pub mod Places
 pub mod Replies

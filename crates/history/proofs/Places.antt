@@ -11,7 +11,7 @@ use Rattle.process.specs.declared.Signal.the-variants.{Absent, Present}
 use Rattle.process.specs.declared.Place.{Place}
 use Rattle.process.specs.declared.Place.the-variants.{Idle, Entering, Scanning, Trying, Committed, Posting, Opening, Showing, Asleep, Waiting, Met}
 use Rattle.process.specs.Process.{isIdle}
-use Rattle.history.proofs.Invariant.{Shows, Quiet, Waits, Fine}
+use Rattle.history.proofs.Invariant.{Commits, Shows, Quiet, Waits, Fine}
 
 -- a fact of H and W holds where a process shows its list
 pub shows-elim : (P : Place → Type 0) → P Showing → P Waiting → (pl : Place) → Shows pl → P pl
@@ -26,6 +26,20 @@ shows-elim P a b Showing s = a
 shows-elim P a b Asleep s = absurd s
 shows-elim P a b Waiting s = b
 shows-elim P a b (Met i m) s = absurd s
+
+-- a fact of C
+pub commits-elim : (P : Place → Type 0) → ((i j : ℕ) → P (Committed i j)) → (pl : Place) (a b : ℕ) → Commits pl a b → P pl
+commits-elim P f Idle a b c = absurd c
+commits-elim P f Entering a b c = absurd c
+commits-elim P f (Scanning i) a b c = absurd c
+commits-elim P f (Trying i) a b c = absurd c
+commits-elim P f (Committed i j) a b c = f i j
+commits-elim P f Posting a b c = absurd c
+commits-elim P f Opening a b c = absurd c
+commits-elim P f Showing a b c = absurd c
+commits-elim P f Asleep a b c = absurd c
+commits-elim P f Waiting a b c = absurd c
+commits-elim P f (Met i m) a b c = absurd c
 
 -- a fact of W
 pub waits-elim : (P : Place → Type 0) → P Waiting → (pl : Place) → Waits pl → P pl

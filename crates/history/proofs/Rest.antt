@@ -1,11 +1,10 @@
--- At rest no two open offers match.
-use Prim.Native.Nat.{ℕ, zero, suc, _+_, _^_, _≤_, _<_}
+-- Where no rule would change anything, no two open offers match.
+use Prim.Native.Nat.{ℕ, zero, suc, _+_, _≤_, _<_}
 use mathlib.Core.Path.{_≡_, refl, sym, _∙_, subst}
 use mathlib.Core.Bool.{Bool, true, false, cond, false≢true, true≢false}
 use mathlib.Core.Option.{some, none, Option·none-ne-some}
 use native.Mathlib.Omega.{arith}
 use lib.Dec.{ltb}
-use lib.Pow.{pow-pos}
 use borrow.Author.Tests.{ltb-true, ltb-false}
 use Rattle.alternative.specs.declared.Found.{Found}
 use Rattle.alternative.specs.declared.Found.the-variants.{At, Missing}
@@ -19,24 +18,13 @@ use Rattle.rendezvous.specs.declared.ProcessTable.{ProcessTable}
 use Rattle.process.specs.Process.{stateOf, indexOf, ownList, postedList, ownGuard, openAt, isOpen}
 use Rattle.rendezvous.specs.Table.{process, hasOpenOffer}
 use Rattle.process.specs.Rules.{scanFrom, scan, try, handOver, ruleAt, rule, namedBy, changes}
-use Rattle.rendezvous.specs.Calls.{effectOn, setBelow, runnableSet, Quiescent}
+use Rattle.rendezvous.specs.Calls.{effectOn}
 use Rattle.alternative.proofs.Tests.{and-parts}
 use Rattle.history.specs.Book.{Transaction}
 use Rattle.history.specs.Demand3.{openOffer}
-use Rattle.history.proofs.View.{split}
 use Rattle.history.proofs.Invariant.{Past, QuietState, WaitingState, Good}
 use Rattle.history.proofs.Matches.{no-match}
 use Rattle.history.proofs.Facts.{at-names}
-
--- a set is empty: no number is in it
-none-below : (member : ℕ → Bool) (n : ℕ) → setBelow member n ≡ 0 → (p : ℕ) → p < n → member p ≡ false
-unfolding setBelow
-none-below member zero e p h = absurd (omega arith)
-none-below member (suc n) e p h = split p n (none-below member n (omega arith) p) (λ l. let z : p ≡ n = omega arith in rw z (out (member n) e))
-  where
-    out : (b : Bool) → setBelow member n + cond b (2 ^ n) 0 ≡ 0 → b ≡ false
-    out true f = absurd (omega (arith, pow-pos n))
-    out false f = refl
 
 -- a process at A that does not move: its partner has the word ALT and no smaller ticket
 record Stopped (x y : Process) : Type 0 where
@@ -90,11 +78,15 @@ module _ (p : ℕ) (x : Process) (q : ℕ) (y : Process) where
   rests-past (Committed i j) c o n k = false≢true o
   rests-past (Met i m) c o n k = false≢true o
 
-module _ (t : ProcessTable) (good : Good t) (quiescent : Quiescent t) where
+-- no rule would change anything
+abbrev pub Still : ProcessTable → Type 0
+Still t = (p : ℕ) → p < t .n → changes (effectOn t p) ≡ false
+
+module _ (t : ProcessTable) (good : Good t) (none-moves : Still t) where
   still : (p : ℕ) → p < t .n → (pl : Place) → process t p .place ≡ pl → let q = namedBy (process t p) (indexOf pl) in changes (ruleAt p (process t p) q (process t q) pl) ≡ false
-  unfolding runnableSet effectOn rule
+  unfolding effectOn rule
   still p h pl e = subst (λ (l : Place). let q = namedBy (process t p) (indexOf l) in changes (ruleAt p (process t p) q (process t q) l) ≡ false) e
-      (none-below (λ p. changes (effectOn t p)) (t .n) quiescent p h)
+      (none-moves p h)
 
   -- No process is at A: its partner would be at A too, with a greater ticket, and so on.
   none-scans : (fuel p i : ℕ) → p < t .n → process t p .place ≡ Scanning i → t .next .0 ≤ process t p .transaction .0 + fuel → ⊥

@@ -1,4 +1,4 @@
--- To be believed. Demand 3: one claim about every list of offers, steps and collections from any fresh table.
+-- To be believed. Demand 3 of document 00: one claim about every list of offers, steps and collections from any fresh table.
 use Rattle.alternative.specs.Guards.{guardsMatch, offersMatch}
 use Rattle.process.specs.Process.{ownList, ownGuard, postedGuard}
 use Rattle.rendezvous.specs.Table.{mostProcesses, process, freshTable, hasOpenOffer}
@@ -15,8 +15,7 @@ bookAfterAll t b (c ∷ cs) = do
   after ← enter b c (seen (saidTo t c))
   bookAfterAll (tableAfter t c) after cs
 
--- The rendezvous that the calls make, in the order of their commits: a step of p that goes to C makes one. It is told from the table alone: the tickets of the two
--- records, the guard that p is at, the process q that it names, the index that p keeps, and the message of that guard and the kept one.
+-- The rendezvous that the calls make, told from the tables alone: a step of p to C makes one, of the guard that p is at and the one whose index p keeps.
 abbrev pub commitAt : ProcessTable → ℕ → Place → List Rendezvous
 commitAt t p (Committed i j) =
     let x = process t p in
@@ -55,8 +54,7 @@ EachCall Fact t b [] = Unit {0}
 EachCall Fact t b (c ∷ cs) =
     (after : History) → enter b c (seen (saidTo t c)) ≡ some after → Fact b c (saidTo t c) after × EachCall Fact (tableAfter t c) after cs
 
--- A rendezvous joins two offers that are open in the book, on guards that match: "both are enabled, each names the other's party, and one sends while the other
--- receives" (guardsMatch).
+-- A rendezvous joins two processes whose offers are open in the book, on guards of theirs that match; each one that a call enters does.
 pub record Joins (b : History) (r : Rendezvous) : Type 0 where
   pub mine : Transaction
   pub theirs : Transaction
@@ -71,7 +69,6 @@ pub record Joins (b : History) (r : Rendezvous) : Type 0 where
   pub two : r .p ≡ r .q → ⊥
   pub match : guardsMatch (r .p) g (r .q) h ≡ true
 
--- what a call enters
 abbrev pub EntryJoins : History → Call → Said → History → Type 0
 EntryJoins b c says after = (r : Rendezvous) → after .run ≡ b .run ++ (r ∷ []) → Joins b r
 
@@ -106,24 +103,27 @@ AllDiffer (t ∷ ts) = NotIn t ts × AllDiffer ts
 abbrev pub openOffer : ProcessTable → ℕ → Option Transaction
 openOffer t p = let x = process t p in cond (hasOpenOffer t p) (some (record { id = x .transaction .0; guards = ownList x })) none
 
--- The claim for one list of calls from table t.
+-- The claim for one list of calls from table t. "Each call was refused or answered as 1 and 2 say." is no field: every reply in the claim is that of the call's
+-- definition (replyTo), which the code is proved to give; "by demands 1 and 2 the calls' definitions may stand for the calls in it".
 pub record Claim (t : ProcessTable) (calls : List Call) : Type 0 where
-  -- "the rendezvous, in the order of their commits, are a run of whole rendezvous as the plain book enters them; the book is never stuck"
+  -- "The meetings, in the order of their commits, form a run of whole meetings one after another, as document 01's plain book enters them." The book is never stuck.
   pub book : History
   pub never-stuck : bookAfterAll t emptyHistory calls ≡ some book
   pub run : book .run ≡ commitsOf t calls
-  -- "each joins two open offers on enabled guards that name each other, one sending, one receiving"
+  -- "Each joins two tasks whose offers are both open at that moment, on enabled guards that name each other, one sending and one receiving."
   pub joins : EachCall EntryJoins t emptyHistory calls
-  -- "no offer meets twice"
+  -- "No offer meets twice."
   pub once : AllDiffer (idsOf (book .run))
-  -- "tickets, collections and open offers are the book's"
+  -- "Every accepted offer got the book's ticket, every accepted collection gave exactly the guard, partner and message that the book had due for that task, and the
+  -- desk's open offers are the book's, alike in party, ticket and list."
   pub tickets : EachCall TicketIsNext t emptyHistory calls
   pub collections : EachCall OutcomeWasDue t emptyHistory calls
   pub opens : (p : ℕ) → openOffer (tableAfterAll t calls) p ≡ book .opened p
-  -- "and when nothing can move, no two open offers match"
+  -- "Whenever no task's step would change the desk, no two open offers match."
   pub rests : Quiescent (tableAfterAll t calls) → (p q : ℕ) (o r : Transaction) → (p ≡ q → ⊥)
       → openOffer (tableAfterAll t calls) p ≡ some o → openOffer (tableAfterAll t calls) q ≡ some r → offersMatch p (o .guards) q (r .guards) ≡ false
 
--- Demand 3: "One claim about EVERY list of offers, steps and collections from any fresh desk, refused ones among them".
+-- "For every list of offers, steps and collections, in any order and with refused ones among them, from any fresh desk, where each call gets the desk that the last one
+-- handed back, the following holds after the list."
 abbrev pub Demand3 : Type 0
 Demand3 = (n : ℕ) → 2 ≤ n → n ≤ mostProcesses → (calls : List Call) → Claim (freshTable n) calls

@@ -3,4 +3,5 @@ pub mod Run
 pub mod Book
 pub mod Demand3
 pub mod StaysWellFormed
+pub mod NothingLost
 pub mod Cases

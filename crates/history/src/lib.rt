@@ -1,6 +1,7 @@
 // Demand 3: what every list of calls leaves behind, stated and proved over the definitions of the calls.
 ghost use Rattle.history.specs.Demand3.{Demand3};
 ghost use Rattle.history.specs.StaysWellFormed.{StaysWellFormed};
+ghost use Rattle.history.specs.NothingLost.{NothingLost};
 ghost use Rattle.history.specs.Cases.{Starred};
 
 // Carries demand 3, so that the verdict has a line for it: the claim about every list of calls from any fresh table.
@@ -11,6 +12,11 @@ pub fn demand3()
 // Carries the claim that no list of calls damages a table, so that none of them is refused by 7.
 pub fn stays_well_formed()
     ensures { λ _. ⌜ StaysWellFormed ⌝ }
+{}
+
+// Carries the claim that nothing committed is lost: what a commit made due stays due until it is collected, and can be collected once nothing can move.
+pub fn nothing_lost()
+    ensures { λ _. ⌜ NothingLost ⌝ }
 {}
 
 // Carries the starred cases of document 01: in each of them the definitions say what the document says.

@@ -1,24 +1,20 @@
--- The set of processes that can move holds bit p exactly where a step of p changes the table.
-use Prim.Native.Nat.{ℕ, _<_}
-use mathlib.Core.Path.{_≡_, refl, sym, ap, _∙_}
-use mathlib.Core.Bool.{Bool, true, false, cond, false≢true}
+-- A step of process p changes a well-formed table exactly where the rule of p changes anything.
+use Prim.Native.Nat.{ℕ, _≤_, _<_}
+use mathlib.Core.Path.{_≡_, refl, sym, ap, subst, _∙_}
+use mathlib.Core.Bool.{Bool, true, false, false≢true}
 use native.Mathlib.Omega.{arith}
-use lib.ListN.{length, set, length-set}
+use lib.ListN.{length, set, length-set, List·getD-eq-default}
 use lib.Seq.{getD-set-same}
 use lib.Dec.{ltb}
-use borrow.Author.Tests.{ltb-true, ltb-false}
+use borrow.Author.Tests.{ltb-true, ltb-false, lt-ltb}
 use Rattle.process.specs.Process.{nobody}
 use Rattle.process.specs.Rules.{Effect, Neither, Own, Both, rule, partnerOf, changes}
 use Rattle.process.proofs.Differs.{Differs, rule-differs}
-use Rattle.rendezvous.specs.Types.{Process, ProcessTable, NoSuchProcess, Verdict, Reply}
+use Rattle.rendezvous.specs.Types.{Process, ProcessTable}
 use Rattle.rendezvous.specs.Table.{process}
 use Rattle.rendezvous.specs.WellFormed.{wellFormed}
 use Rattle.rendezvous.specs.Refusals.{processVerdict}
-use Rattle.rendezvous.specs.Calls.{effectOn, applied, stepped, step, runnableSet}
-use Rattle.rendezvous.specs.Movers.{bit, Tells, MoversChange}
-use Rattle.rendezvous.proofs.Forms.{formed-most}
-use Rattle.rendezvous.proofs.Sets.{bit-of, bit-outside}
-use Rattle.rendezvous.proofs.Steps.{step-refused, process-accepted}
+use Rattle.rendezvous.specs.Calls.{effectOn, applied, stepped, step, Quiescent}
 
 -- another place in the record of p is another table
 placed : (t u : ProcessTable) (p : ℕ) (x : Process) → process u p ≡ x → (x .place ≡ process t p .place → ⊥) → u ≡ t → ⊥
@@ -34,44 +30,41 @@ unchanged t p q Neither c = refl
 unchanged t p q (Own x) c = absurd (false≢true (sym c))
 unchanged t p q (Both x y) c = absurd (false≢true (sym c))
 
-module _ (t : ProcessTable) (p : ℕ) (long : length (t .processes) ≡ 32) (formed : wellFormed t ≡ true) where
-  abbrev x : Process
-  x = process t p
+-- past the end of the records stands a process at I, whose rule changes nothing
+nobody-stays : (t : ProcessTable) (p : ℕ) → length (t .processes) ≤ p → changes (effectOn t p) ≡ false
+unfolding effectOn rule
+nobody-stays t p h = rw (List·getD-eq-default (t .processes) nobody {n = p} h)
 
-  abbrev q : ℕ
-  q = partnerOf x
+module _ (t : ProcessTable) (formed : wellFormed t ≡ true) (p : ℕ) where
+  taken : p < t .n → step t p ≡ stepped t p
+  unfolding step processVerdict
+  taken below = rw (formed, lt-ltb p (t .n) below)
 
-  -- of a process, the bit is that of its rule's effect
-  tells-inside : p < t .n → Tells t p
-  unfolding runnableSet step stepped effectOn
-  tells-inside below = go (changes (rule p x q (process t q))) refl
+  -- a step of no process is refused
+  pub step-outside : t .n ≤ p → step t p .table ≡ t
+  unfolding step processVerdict
+  step-outside above = go (ltb p (t .n)) refl
     where
-      moved : (b : Bool) → changes (rule p x q (process t q)) ≡ b → bit p (runnableSet t) ≡ cond b 1 0
-      moved b e = bit-of (λ r. changes (effectOn t r)) p (t .n) below ∙ rw e
+      go : (b : Bool) → ltb p (t .n) ≡ b → step t p .table ≡ t
+      go true e = absurd (omega (arith, ltb-true p (t .n) e))
+      go false e = rw (formed, e)
 
-      go : (b : Bool) → changes (rule p x q (process t q)) ≡ b → Tells t p
-      go true e = record {
-        one = λ h. rw (process-accepted t p formed below) (changed t p q (rule p x q (process t q)) (omega (arith, formed-most t formed)) (rule-differs p x q (process t q)) e);
-        zero = λ h. absurd (let z : _≡_ {A = ℕ} 1 0 = sym (moved true e) ∙ h in omega arith);
-      }
-      go false e = record {
-        one = λ h. absurd (let z : _≡_ {A = ℕ} 0 1 = sym (moved false e) ∙ h in omega arith);
-        zero = λ h. rw (process-accepted t p formed below) (unchanged t p q (rule p x q (process t q)) e);
-      }
+  pub step-same : p < t .n → changes (effectOn t p) ≡ false → step t p .table ≡ t
+  unfolding stepped
+  step-same below c = rw (taken below) (unchanged t p _ (effectOn t p) c)
 
-  -- past the processes the bit is 0, and a step is refused
-  tells-outside : ltb p (t .n) ≡ false → Tells t p
-  unfolding runnableSet processVerdict
-  tells-outside above =
-      let refuses : processVerdict t p ≡ Verdict.Refused NoSuchProcess = rw (formed, above) in
-      record {
-        one = λ h. absurd (let z : _≡_ {A = ℕ} 0 1 = sym (bit-outside (λ r. changes (effectOn t r)) p (t .n) (ltb-false p (t .n) above)) ∙ h in omega arith);
-        zero = λ h. ap (λ (r : Reply). r .table) (sym (step-refused t p NoSuchProcess refuses));
-      }
+  pub step-other : p < t .n → changes (effectOn t p) ≡ true → step t p .table ≡ t → ⊥
+  unfolding stepped effectOn
+  step-other below c = rw (taken below) (changed t p _ (effectOn t p) (there (ltb p (length (t .processes))) refl) (rule-differs p (process t p) _ _) c)
+    where
+      there : (b : Bool) → ltb p (length (t .processes)) ≡ b → p < length (t .processes)
+      there true e = ltb-true p (length (t .processes)) e
+      there false e = absurd (false≢true (sym (nobody-stays t p (ltb-false p (length (t .processes)) e)) ∙ c))
 
-pub movers-change : MoversChange
-movers-change t p long formed = go (ltb p (t .n)) refl
+-- at rest no rule changes anything
+pub rest-still : (t : ProcessTable) → wellFormed t ≡ true → Quiescent t → (p : ℕ) → p < t .n → changes (effectOn t p) ≡ false
+rest-still t formed rest p below = go (changes (effectOn t p)) refl
   where
-    go : (b : Bool) → ltb p (t .n) ≡ b → Tells t p
-    go true e = tells-inside t p long formed (ltb-true p (t .n) e)
-    go false e = tells-outside t p long formed e
+    go : (b : Bool) → changes (effectOn t p) ≡ b → b ≡ false
+    go true e = absurd (step-other t formed p below e (rest p))
+    go false e = refl

@@ -1,6 +1,6 @@
 -- Sets of numbers below n as bits, for any n: `setBelow member n` has bit p exactly where p is below n and a member; and the call that gives such a set.
 use Prim.Native.Nat.{ℕ, suc, zero, _+_, _*_, _^_, _-_, _/_, _%_, _≤_, _<_}
-use mathlib.Core.Path.{_≡_, ap, _∙_}
+use mathlib.Core.Path.{_≡_, refl, ap, _∙_}
 use mathlib.Core.Bool.{Bool, true, false, cond}
 use mathlib.Core.Logic.{⊎-elim}
 use native.Mathlib.Nat.{two-pow-succ, one-le-pow, pow-le-pow-right, pow-zero, pow-suc, add-zero, add-suc, mul-one, mul-assoc, add-mul-div-left, add-div-right, div-eq-of-lt, eq-or-lt-of-le, le-of-suc-le-suc, not-suc-le-zero}
@@ -65,6 +65,15 @@ bit-outside member p n h =
     let less : setBelow member n < 2 ^ p = omega (arith, set-below member n, pow-le-pow-right {n = 2} (omega arith) h) in
     let none : setBelow member n / 2 ^ p ≡ 0 = div-eq-of-lt less in
     rw none
+
+-- the empty set has no bit, and a set without members is empty
+pub bit-of-none : (p : ℕ) → 0 / 2 ^ p % 2 ≡ 0
+bit-of-none p = let none : 0 / 2 ^ p ≡ 0 = div-eq-of-lt (positive p) in rw none
+
+pub none-below : (member : ℕ → Bool) (n : ℕ) → ((p : ℕ) → p < n → member p ≡ false) → setBelow member n ≡ 0
+unfolding setBelow
+none-below member zero h = refl
+none-below member (suc n) h = rw (none-below member n (λ p l. h p (omega arith)), h n (omega arith))
 
 -- a set of at most 32 members, and a bit on the way there, fit
 pub bit-fits : (p : ℕ) → p ≤ 32 → 2 ^ p ≤ 4294967296

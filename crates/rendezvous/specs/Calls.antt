@@ -79,6 +79,6 @@ runnableSet t = setBelow (λ p. changes (effectOn t p)) (t .n)
 unfoldable pub runnable : ProcessTable → Reply
 runnable t = ifAccepted (tableVerdict t) t (record { answer = Runnable (runnableSet t); table = t })
 
--- "The desk is at rest when the set is empty."
+-- "no task's step would change the desk"
 abbrev pub Quiescent : ProcessTable → Type 0
-Quiescent t = runnableSet t ≡ 0
+Quiescent t = (p : ℕ) → step t p .table ≡ t

@@ -1,17 +1,22 @@
--- To be believed. Document 01, "Calls": "bit p is 1 exactly if p is a party and a step of p would change the desk", as a claim about the definitions.
+-- To be believed. Document 01, "Calls": what the set of movers tells of the steps and of rest, as a claim about the definitions.
 use Prim.Native.Nat.{_/_, _%_}
-use lib.ListN.{length}
 use Rattle.rendezvous.specs.Types.{ℕ, _^_, _≡_, true, ProcessTable}
 use Rattle.rendezvous.specs.WellFormed.{wellFormed}
-use Rattle.rendezvous.specs.Calls.{step, runnableSet}
+use Rattle.rendezvous.specs.Calls.{step, runnableSet, Quiescent}
 
 abbrev pub bit : ℕ → ℕ → ℕ
 bit p set = set / 2 ^ p % 2
 
--- for every number p: where bit p is 1 the table after a step of p is another, where it is 0 it is the same
+-- "bit p is 1 exactly if p is a party and a step of p would change the desk.": where bit p is 1 the table after a step of p is another, where it is 0 it is the same
 pub record Tells (t : ProcessTable) (p : ℕ) : Type 0 where
   pub one : bit p (runnableSet t) ≡ 1 → step t p .table ≡ t → ⊥
   pub zero : bit p (runnableSet t) ≡ 0 → step t p .table ≡ t
 
+-- "The desk is at rest when the set is empty.": then, and only then, no step changes the table
+pub record RestsWhenEmpty (t : ProcessTable) : Type 0 where
+  pub rests : runnableSet t ≡ 0 → Quiescent t
+  pub empty : Quiescent t → runnableSet t ≡ 0
+
+-- of every table that is not refused by 7
 abbrev pub MoversChange : Type 0
-MoversChange = (t : ProcessTable) (p : ℕ) → length (t .processes) ≡ 32 → wellFormed t ≡ true → Tells t p
+MoversChange = (t : ProcessTable) → wellFormed t ≡ true → ((p : ℕ) → Tells t p) × RestsWhenEmpty t

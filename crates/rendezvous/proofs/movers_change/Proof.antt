@@ -1,4 +1,4 @@
-use Rattle.rendezvous.proofs.Changes.{movers-change}
+use Rattle.rendezvous.proofs.Movers.{movers-change}
 use Rattle.rendezvous.proofs.movers_change.Statement.{statement}
 use Rattle.rendezvous.proofs.movers_change.Tie as tie
 
