@@ -13,6 +13,7 @@ use mir.Syntax.{w64}
 use mir.Val.{ofZ, toZ}
 use mir.Facts.{toZ-ofZ}
 use Rattle.io.specs.Counts.{clamped}
+use Rattle.libc.specs.Io.{Moved}
 use Rattle.script.specs.Feeding.{State, stateOf, fed, fedPieces}
 use Rattle.script_main.specs.declared.Status.the-variants.{Going, Ended, Unreadable, Endless}
 use Rattle.script_main.specs.declared.Progress.{Progress}
@@ -40,6 +41,10 @@ read-some (negsuc n) e h = absurd (subst T e tt)
 -- what `read` returned is what the functions that are passed it get
 pub passed-on : (z : ℤ) → mag z < 9223372036854775808 → toZ w64 (ofZ w64 z) ≡ z
 passed-on z h = toZ-ofZ {w = w64} {z = z} record { sfits = h }
+
+-- the turn of a read, by what libc promises of it
+abbrev pub turnOf : (got : ℤ) (lent : ℕ) (buffer : List ℕ) → length buffer ≡ lent → Moved lent got → Bool → Turn
+turnOf got lent buffer l m written = record { got = got; buffer = buffer; written = written; moved = subst (λ (n : ℕ). Moved n got) (sym l) m }
 
 -- the bytes that were counted are those that were read
 counted : (t : Turn) → take (clamped (t .got) (length (t .buffer))) (t .buffer) ≡ pieceOf t

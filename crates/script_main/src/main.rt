@@ -10,10 +10,10 @@ use script::Fed;
 use script::Session;
 ghost use Prim.Native.Nat.{_*_, _≤_};
 ghost use mathlib.Core.Path.{_≡_};
+ghost use mathlib.Core.Bool.{true};
 ghost use lib.ListN.{length, take};
 ghost use Rattle.script.specs.Feeding.{stateOf, fed, finished};
 ghost use Rattle.script_main.specs.Turns.{isEnded, OneTurn, AllTurns, AtEnd, sentenceOf};
-ghost use mathlib.Core.Bool.{true};
 
 mod answers;
 

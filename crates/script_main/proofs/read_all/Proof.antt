@@ -25,7 +25,8 @@ returns : tie.Need-returns Inv-loop μ-loop
 returns c =
     let w = c .before .before .before .before .before .before .read-once .ensures in
     let so-far = c .before .before .before .before .before .before .before .before .before .before .loop .inv .2 in
-    stopped _ _ _ so-far (c .before .before .before .before .before .before .read-once .result) (w .0) (sym (c .before .goes-on .ensures) ∙ not-true _ (c .if1 .taken)) (w .2) (w .3)
+    let g : isGoing (c .before .before .before .before .before .before .read-once .result .status) ≡ false = sym (c .before .goes-on .ensures) ∙ not-true _ (c .if1 .taken) in
+    stopped _ _ _ so-far (c .before .before .before .before .before .before .read-once .result) (w .0) g (w .2) (w .3)
 
 loop-again : tie.Need-loop-again Inv-loop μ-loop
 loop-again c =
