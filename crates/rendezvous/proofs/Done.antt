@@ -22,17 +22,6 @@ use Rattle.rendezvous.specs.Calls.{ifAccepted, entering, offered, offerL
 use Rattle.rendezvous.specs.Acts.{alone, unlessRefused, offerAct, movedAct, stepAct, collectedAct, collectAct, done, ActsAreCalls}
 use Rattle.rendezvous.proofs.Steps.{inside}
 
--- as the code carries an act out: the partner's record, where it is told something, then the own record and the next ticket
-pub done-both : (t u : ProcessTable) (i j : ℕ) (act : Act) (y : Process) → act .told ≡ true → y ≡ changed (process t j) (process t j .place) (act .signal) (act .accepting) → u ≡ put t j y
-    → record { answer = act .answer; table = record { n = u .n; next = act .next; processes = set (u .processes) i (act .own) } } ≡ done t i j act
-unfolding done
-done-both t u i j act y told e f = rw (f, told, e)
-
-pub done-own : (t u : ProcessTable) (i j : ℕ) (act : Act) → act .told ≡ false → u ≡ t
-    → record { answer = act .answer; table = record { n = u .n; next = act .next; processes = set (u .processes) i (act .own) } } ≡ done t i j act
-unfolding done
-done-own t u i j act told f = rw (f, told)
-
 -- an act that changes nothing: what was read is written again
 pub kept : (t : ProcessTable) (i j : ℕ) (answer : Answer) → done t i j (alone answer (t .next) (process t i)) ≡ record { answer = answer; table = t }
 unfolding done
@@ -74,6 +63,17 @@ acts-are-calls = record {
   steps = λ t p. let x = process t p in let q = partnerOf x in if-done t p q (processVerdict t p) _ _ (applied-done t p q (rule p x q (process t q)) (rule-kept p x q (process t q)));
   collects = λ t p q. if-done t p q (processVerdict t p) _ _ (collected-done t p q (process t p .place));
 }
+
+-- as the code carries an act out: the partner's record, where it is told something, then the own record and the next ticket
+pub done-both : (t u : ProcessTable) (i j : ℕ) (act : Act) (y : Process) → act .told ≡ true → y ≡ changed (process t j) (process t j .place) (act .signal) (act .accepting) → u ≡ put t j y
+    → record { answer = act .answer; table = record { n = u .n; next = act .next; processes = set (u .processes) i (act .own) } } ≡ done t i j act
+unfolding done
+done-both t u i j act y told e f = rw (f, told, e)
+
+pub done-own : (t u : ProcessTable) (i j : ℕ) (act : Act) → act .told ≡ false → u ≡ t
+    → record { answer = act .answer; table = record { n = u .n; next = act .next; processes = set (u .processes) i (act .own) } } ≡ done t i j act
+unfolding done
+done-own t u i j act told f = rw (f, told)
 
 -- The code reads and writes the records at i = p % 32 and j = q % 32: those of p and q where 7 and 2 let p pass. Where they do not, what was read is written again,
 -- wherever it was.
