@@ -4,3 +4,4 @@ pub mod Book
 pub mod Demand3
 pub mod StaysWellFormed
 pub mod Cases
+pub mod Further
