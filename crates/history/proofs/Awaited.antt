@@ -27,6 +27,10 @@ awaited-put v a p x new old = entered-each (λ q y. Bound y → Held (upd v p x)
     still : (q : ℕ) → (h : Held v q) → (h .by ≡ p → ⊥) → Held (upd v p x) q
     still q h ne = let u = upd-other v p x (h .by) ne in record { by = h .by; at = h .at; kept = h .kept; other = h .other; there = rw u (h .there); names = rw u (h .names) }
 
+-- a record at neither H nor W is not bound
+pub hidden : (x y : Process) → (Shows (x .place) → ⊥) → Bound x → Bound y
+hidden x y hides b = absurd (hides (b .shows))
+
 -- one that shows its list has committed to nobody
 idle-shows : (pl : Place) (i j : ℕ) → Shows pl → Commits pl i j → ⊥
 idle-shows pl i j = shows-elim (λ at. Commits at i j → ⊥) (λ c. c) (λ c. c) pl

@@ -7,7 +7,6 @@ use mathlib.Core.Option.{some, none, Option·some-injective, Option·none-ne-som
 use native.Mathlib.Omega.{arith}
 use lib.Dec.{ltb}
 use borrow.Author.Tests.{ltb-false}
-use Rattle.alternative.specs.Guards.{offersMatch}
 use Rattle.process.specs.declared.Place.{Place}
 use Rattle.rendezvous.specs.declared.ProcessTable.{ProcessTable}
 use Rattle.process.specs.Process.{openAt, isOpen, isIdle}
@@ -15,31 +14,27 @@ use Rattle.rendezvous.specs.Table.{mostProcesses, process, freshTable}
 use Rattle.rendezvous.specs.Numbers.{Said}
 use Rattle.rendezvous.proofs.Changes.{rest-still}
 use Rattle.history.specs.Run.{Call, replyTo, saidTo, tableAfter, tableAfterAll}
-use Rattle.history.specs.Book.{Transaction, History, emptyHistory, seen, enter}
-use Rattle.history.specs.Demand3.{bookAfterAll, commitBy, commitsOf, EachCall, EntryJoins, TicketIsNext, OutcomeWasDue, idsOf, AllDiffer, openOffer, Demand3}
+use Rattle.history.specs.Book.{History, emptyHistory, seen, enter}
+use Rattle.history.specs.Demand3.{bookAfterAll, commitBy, commitsOf, EachCall, EntryJoins, TicketIsNext, OutcomeWasDue, openOffer, Demand3}
 use Rattle.history.proofs.Invariant.{Bound, Good}
 use Rattle.history.proofs.Places.{idle-is}
 use Rattle.history.proofs.Tame.{Held}
 use Rattle.history.proofs.GoodTable.{good-after, fresh-each, good-fresh}
 use Rattle.history.proofs.Formed.{stays-well-formed}
-use Rattle.history.proofs.Rest.{Still, at-rest}
+use Rattle.history.proofs.Rest.{at-rest}
 use Rattle.history.proofs.Due.{offerOf, openOf, listsOf, Agrees, Kept}
 use Rattle.history.proofs.EveryCall.{followed}
 
--- the claim of demand 3 for one list of calls, from a table t and a book b; the table after them is good, and the book is kept with it
+-- the claim of demand 3 for one list of calls, from a table t and a book b: what is said of each call, and that the table after them is good, with a book kept with it
 pub record ClaimFrom (t : ProcessTable) (b : History) (calls : List Call) : Type 0 where
   pub book : History
   pub never-stuck : bookAfterAll t b calls ≡ some book
   pub good : Good (tableAfterAll t calls)
   pub kept : Kept (tableAfterAll t calls) book
-  run : book .run ≡ b .run ++ commitsOf t calls
-  joins : EachCall EntryJoins t b calls
-  once : AllDiffer (idsOf (book .run))
-  tickets : EachCall TicketIsNext t b calls
-  collections : EachCall OutcomeWasDue t b calls
-  opens : (p : ℕ) → openOffer (tableAfterAll t calls) p ≡ book .opened p
-  rests : Still (tableAfterAll t calls) → (p q : ℕ) (o r : Transaction) → (p ≡ q → ⊥)
-      → openOffer (tableAfterAll t calls) p ≡ some o → openOffer (tableAfterAll t calls) q ≡ some r → offersMatch p (o .guards) q (r .guards) ≡ false
+  pub run : book .run ≡ b .run ++ commitsOf t calls
+  pub joins : EachCall EntryJoins t b calls
+  pub tickets : EachCall TicketIsNext t b calls
+  pub collections : EachCall OutcomeWasDue t b calls
 
 -- a fact of the first call and of the others, which go on from the book that the first one leaves
 each-call : (Fact : History → Call → Said → History → Type 0) (t : ProcessTable) (b : History) (c : Call) (cs : List Call) (after : History)
@@ -66,11 +61,8 @@ claim-from t b good k [] = record {
   kept = k;
   run = sym (append-nil (b .run));
   joins = tt;
-  once = k .once .differ;
   tickets = tt;
   collections = tt;
-  opens = λ p. open-offer t good p ∙ k .each p .offer;
-  rests = at-rest t good;
 }
 claim-from t b good k (c ∷ cs) =
     let f = followed t b good k c in
@@ -82,11 +74,8 @@ claim-from t b good k (c ∷ cs) =
       kept = rest .kept;
       run = rest .run ∙ rw (f .run, append-assoc);
       joins = each-call EntryJoins t b c cs (f .after) (f .entered) (λ r e. f .joins r (append-cancel-left (b .run) (commitBy t c (replyTo t c .answer)) (r ∷ []) (sym (f .run) ∙ e))) (rest .joins);
-      once = rest .once;
       tickets = each-call TicketIsNext t b c cs (f .after) (f .entered) (f .ticket) (rest .tickets);
       collections = each-call OutcomeWasDue t b c cs (f .after) (f .entered) (f .outcome) (rest .collections);
-      opens = rest .opens;
-      rests = rest .rests;
     }
 
 pub fresh-kept : (n : ℕ) → Kept (freshTable n) emptyHistory
@@ -108,9 +97,9 @@ demand3 n least most calls =
       never-stuck = c .never-stuck;
       run = c .run;
       joins = c .joins;
-      once = c .once;
+      once = c .kept .once .differ;
       tickets = c .tickets;
       collections = c .collections;
-      opens = c .opens;
-      rests = λ rest. c .rests (rest-still _ (stays-well-formed n bottom top calls) rest);
+      opens = λ p. open-offer _ (c .good) p ∙ c .kept .each p .offer;
+      rests = λ rest. at-rest _ (c .good) (rest-still _ (stays-well-formed n bottom top calls) rest);
     }

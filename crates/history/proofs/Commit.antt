@@ -32,9 +32,9 @@ use Rattle.history.proofs.Places.{shows-elim}
 use Rattle.history.proofs.Facts.{fine, at-names, shown, accepts, commit-binds, unbound}
 use Rattle.history.proofs.GoodTable.{put-two}
 use Rattle.history.proofs.Once.{once-commits}
-use Rattle.history.proofs.Awaited.{awaited-commit}
+use Rattle.history.proofs.Awaited.{hidden, awaited-commit}
 use Rattle.history.proofs.Due.{offerOf, listsOf, DueAt, Agrees, KeptOf, Kept, agrees-other, offer-at, owed-at, each-two}
-use Rattle.history.proofs.Followed.{Followed, stays, hidden, moves, scans, scan-followed, absorbs, signals}
+use Rattle.history.proofs.Followed.{Followed, stays, moves, scans, scan-followed, absorbs, signals}
 
 -- the book's messages are rule 9's
 mine-message : (g h : Action) → dueMessage g (sendersMessage g h) ≡ receivedBy g h
@@ -168,26 +168,26 @@ module _ {t : ProcessTable} (good : Good t) {b : History} (k : Kept t b) (p : �
       → (found : Found) → firstMatch p (ownGuard (process t p) i) q (postedList (process t q)) ≡ found
       → Followed t b (Step p) (applied t p q (try (process t p) i (process t q) accepting found))
   tries i e true a (At j) f = commits good k p below i j e a f
-  tries i e true a Missing f = scans good k p below _ e (offer-at (k .each p) e) (owed-at (k .each p) e) (λ i j c. c) _ (suc i)
-  tries i e false a (At j) f = scans good k p below _ e (offer-at (k .each p) e) (owed-at (k .each p) e) (λ i j c. c) _ (suc i)
-  tries i e false a Missing f = scans good k p below _ e (offer-at (k .each p) e) (owed-at (k .each p) e) (λ i j c. c) _ (suc i)
+  tries i e true a Missing f = scans good k p below _ e refl refl (λ i j c. c) _ (suc i)
+  tries i e false a (At j) f = scans good k p below _ e refl refl (λ i j c. c) _ (suc i)
+  tries i e false a Missing f = scans good k p below _ e refl refl (λ i j c. c) _ (suc i)
 
   step-at : (place : Place) → process t p .place ≡ place → let q = namedBy (process t p) (indexOf place) in
       Followed t b (Step p) (applied t p q (ruleAt p (process t p) q (process t q) place))
   step-at Idle e = stays good k p below
-  step-at Entering e = scans good k p below _ e (offer-at (k .each p) e) (owed-at (k .each p) e) (λ i j c. c) _ 0
+  step-at Entering e = scans good k p below _ e refl refl (λ i j c. c) _ 0
   step-at (Scanning i) e = scan-followed good k p below i e
       (stateOf (process t (ownGuard (process t p) i .partner) .place)) (ltb (process t (ownGuard (process t p) i .partner) .transaction .0) (process t p .transaction .0))
   step-at (Trying i) e = tries i e _ refl _ refl
   step-at (Committed i j) e = signals good k p below i j e
-  step-at Posting e = moves good k p below _ e _ (search (offer-at (k .each p) e, owed-at (k .each p) e, k .each p .told, hidden good k p below))
+  step-at Posting e = moves good k p below _ e _ (search (offer-at (k .each p) e, owed-at (k .each p) e, k .each p .told, hidden))
   step-at Opening e =
       let bound : (x : Process) → x .accepting ≡ true → Bound x → Bound (process t p) = λ x a b. absurd (true≢false (sym a ∙ b .woken)) in
       moves good k p below _ e _ (search (offer-at (k .each p) e, owed-at (k .each p) e, k .each p .told, bound))
   step-at Showing e =
       let bound : Bound (atPlace (process t p) Waiting) → Bound (process t p) = λ b. record { shows = rw e tt; woken = b .woken; deaf = b .deaf } in
       moves good k p below _ e _ (search (offer-at (k .each p) e, owed-at (k .each p) e, k .each p .told, bound))
-  step-at Asleep e = scans good k p below _ e (offer-at (k .each p) e) (owed-at (k .each p) e) (λ i j c. c) _ 0
+  step-at Asleep e = scans good k p below _ e refl refl (λ i j c. c) _ 0
   step-at Waiting e = absorbs good k p below e (process t p .signal) refl
   step-at (Met i m) e = stays good k p below
 

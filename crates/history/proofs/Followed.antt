@@ -22,22 +22,22 @@ use Rattle.rendezvous.specs.declared.ProcessTable.{ProcessTable}
 use Rattle.rendezvous.specs.declared.Refusal.{Refusal}
 use Rattle.rendezvous.specs.declared.Answer.the-variants.{Moved, Unchanged}
 use Rattle.rendezvous.specs.declared.Reply.{Reply}
-use Rattle.process.specs.Process.{letterOf, indexOf, ownList, ownGuard}
+use Rattle.process.specs.Process.{letterOf, indexOf, ownList, ownGuard, openAt}
 use Rattle.rendezvous.specs.Table.{process, put}
 use Rattle.process.specs.Rules.{Own, atPlace, scanAt, scanFrom, scan, handOver, absorb}
 use Rattle.rendezvous.specs.Calls.{refused, applied}
 use Rattle.rendezvous.specs.Numbers.{refusalNumber, said}
 use Rattle.history.specs.Run.{Call, Offer, Step, Collect}
 use Rattle.history.specs.Book.{Rendezvous, History, seen, stepping, enter}
-use Rattle.history.specs.NothingLost.{isDue}
+use Rattle.history.specs.NothingLost.{isOwed, isDue}
 use Rattle.history.specs.Demand3.{commitAt, commitBy, Joins, TicketIsNext, OutcomeWasDue}
 use Rattle.history.proofs.View.{View, entered-each}
-use Rattle.history.proofs.Invariant.{Commits, Shows, Bound, Good}
+use Rattle.history.proofs.Invariant.{Commits, Bound, Good}
 use Rattle.history.proofs.Matches.{match}
 use Rattle.history.proofs.Places.{told-woken}
 use Rattle.history.proofs.Facts.{fine, at-names, shown, commit-binds}
 use Rattle.history.proofs.GoodTable.{put-one, put-two}
-use Rattle.history.proofs.Awaited.{awaited-put, awaited-signal}
+use Rattle.history.proofs.Awaited.{awaited-put, hidden, awaited-signal}
 use Rattle.history.proofs.Due.{offerOf, listsOf, DueBy, Agrees, KeptOf, Kept, lists-same, offer-at, owed-at, due-at, each-two}
 
 -- the book follows a call on table t: it is not stuck, it has the rendezvous, ticket or outcome of the call, and it goes with the table handed back
@@ -67,8 +67,8 @@ turned-away t b (Collect p) k r = enters-nothing _ _ refl refl tt (inl (refusalN
 
 -- p moves from place pl to the new record x, with its list: no commit is entered, the book goes with the record, p was not at C, and x is bound only if the old record was
 pub record Moving (t : ProcessTable) (b : History) (p : ℕ) (pl : Place) (x : Process) : Type 0 where
-  pub passed : stepping b p (eqb (letterOf (x .place)) (code "C")) (indexOf (x .place)) ≡ some b
-  pub none : commitAt t p (x .place) ≡ []
+  pub book-stays : stepping b p (eqb (letterOf (x .place)) (code "C")) (indexOf (x .place)) ≡ some b
+  pub no-commit : commitAt t p (x .place) ≡ []
   pub list : ownList x ≡ ownList (process t p)
   pub agrees : Agrees (listsOf (process t)) b p x
   pub uncommitted : (i j : ℕ) → Commits pl i j → ⊥
@@ -79,34 +79,36 @@ module _ {t : ProcessTable} (good : Good t) {b : History} (k : Kept t b) (p : �
   unfolding enter
   stays = enters-nothing _ _ refl refl tt tt k
 
-  -- a record at neither H nor W is not bound
-  pub hidden : (x : Process) → (Shows (x .place) → ⊥) → Bound x → Bound (process t p)
-  hidden x hides b = absurd (hides (b .shows))
-
   -- one record is new
   pub moves : (pl : Place) → process t p .place ≡ pl → (x : Process) → Moving t b p pl x → Followed t b (Step p) (record { answer = Moved (x .place); table = put t p x })
   unfolding enter
-  moves pl e x m = enters-nothing _ _ (m .passed) (m .none) tt tt (subst⁻¹ (λ (v : View). KeptOf (t .next .0) v b) (put-one good p x below) (record {
+  moves pl e x m = enters-nothing _ _ (m .book-stays) (m .no-commit) tt tt (subst⁻¹ (λ (v : View). KeptOf (t .next .0) v b) (put-one good p x below) (record {
     counts = k .counts;
     each = rw (lists-same (process t) p x (m .list)) (entered-each (Agrees (listsOf (process t)) b) (process t) p x (m .agrees) (λ r _. k .each r));
     once = k .once;
     awaited = awaited-put (process t) (k .awaited) p x (λ b. k .awaited p (m .bound b)) (λ i j c _. m .uncommitted i j (rw e at c));
   }))
 
-  -- the scan goes on
-  pub scans : (pl : Place) → process t p .place ≡ pl → some (offerOf (process t p)) ≡ b .opened p → isDue (b .due p) ≡ false → ((i j : ℕ) → Commits pl i j → ⊥)
+  -- the scan goes on, from a place at which the offer is open and nothing is due
+  pub scans : (pl : Place) → process t p .place ≡ pl → openAt pl (process t p .accepting) ≡ true → isOwed pl (process t p .accepting) ≡ false → ((i j : ℕ) → Commits pl i j → ⊥)
       → (q i : ℕ) → Followed t b (Step p) (applied t p q (scanFrom (process t p) i))
   unfolding scanFrom
-  scans pl e o w c q i = go (nextEnabled (ownList (process t p)) i)
+  scans pl e opened unowed c q i = go (nextEnabled (ownList (process t p)) i)
     where
+      o : some (offerOf (process t p)) ≡ b .opened p
+      o = rw opened at (offer-at (k .each p) e)
+
+      w : isDue (b .due p) ≡ false
+      w = owed-at (k .each p) e ∙ unowed
+
       go : (f : Found) → Followed t b (Step p) (applied t p q (Own (atPlace (process t p) (scanAt f))))
       go (At i) = moves pl e _ (search (o, w, c, k .each p .told, hidden))
       go Missing = moves pl e _ (search (o, w, c, k .each p .told, hidden))
 
   pub scan-followed : (i : ℕ) → process t p .place ≡ Scanning i → (w : State) (older : Bool)
       → Followed t b (Step p) (applied t p (ownGuard (process t p) i .partner) (scan (process t p) i w older))
-  scan-followed i e Running older = scans _ e (offer-at (k .each p) e) (owed-at (k .each p) e) (λ i j c. c) _ (suc i)
-  scan-followed i e Sleeping older = scans _ e (offer-at (k .each p) e) (owed-at (k .each p) e) (λ i j c. c) _ (suc i)
+  scan-followed i e Running older = scans _ e refl refl (λ i j c. c) _ (suc i)
+  scan-followed i e Sleeping older = scans _ e refl refl (λ i j c. c) _ (suc i)
   scan-followed i e State.Waiting older = moves _ e _ (search (offer-at (k .each p) e, owed-at (k .each p) e, k .each p .told, hidden))
   scan-followed i e Alt true = moves _ e _ (search (offer-at (k .each p) e, owed-at (k .each p) e, k .each p .told, hidden))
   scan-followed i e Alt false = stays

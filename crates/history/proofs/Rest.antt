@@ -83,7 +83,7 @@ abbrev pub Still : ProcessTable → Type 0
 Still t = (p : ℕ) → p < t .n → changes (effectOn t p) ≡ false
 
 module _ (t : ProcessTable) (good : Good t) (none-moves : Still t) where
-  still : (p : ℕ) → p < t .n → (pl : Place) → process t p .place ≡ pl → let q = namedBy (process t p) (indexOf pl) in changes (ruleAt p (process t p) q (process t q) pl) ≡ false
+  pub still : (p : ℕ) → p < t .n → (pl : Place) → process t p .place ≡ pl → let q = namedBy (process t p) (indexOf pl) in changes (ruleAt p (process t p) q (process t q) pl) ≡ false
   unfolding effectOn rule
   still p h pl e = subst (λ (l : Place). let q = namedBy (process t p) (indexOf l) in changes (ruleAt p (process t p) q (process t q) l) ≡ false) e
       (none-moves p h)

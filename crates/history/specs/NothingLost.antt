@@ -2,7 +2,7 @@
 -- move, all that is due can be collected. (The clause on collections of demand 3 speaks of accepted ones alone.)
 use Rattle.process.specs.Process.{isAt, ownGuard}
 use Rattle.rendezvous.specs.Table.{mostProcesses, process, freshTable}
-use Rattle.rendezvous.specs.Calls.{step}
+use Rattle.rendezvous.specs.Calls.{Quiescent}
 use Rattle.rendezvous.specs.Numbers.{outcome}
 use Rattle.history.specs.Types.{ℕ, _≤_, _≡_, Bool, true, false, not, _&&_, _||_, List, Option, some, none, Message, Place, Met, ProcessTable}
 use Rattle.history.specs.Run.{Call, Collect, saidTo, tableAfterAll}
@@ -25,7 +25,7 @@ pub record NoneLost (t : ProcessTable) (b : History) : Type 0 where
   -- at M it is the "outcome's guard index, the partner that this guard of its list names, and the outcome's message",
   pub met : (p i : ℕ) (m : Message) → process t p .place ≡ Met i m → b .due p ≡ some (record { index = i; partner = ownGuard (process t p) i .partner; message = m })
   -- and when nothing can move, a collection gives what is due, the message bit for bit
-  pub given : ((p : ℕ) → step t p .table ≡ t) → (p : ℕ) (d : Due) → b .due p ≡ some d → saidTo t (Collect p) ≡ outcome (d .index) (d .partner) (d .message)
+  pub given : Quiescent t → (p : ℕ) (d : Due) → b .due p ≡ some d → saidTo t (Collect p) ≡ outcome (d .index) (d .partner) (d .message)
 
 abbrev pub NothingLost : Type 0
 NothingLost = (n : ℕ) → 2 ≤ n → n ≤ mostProcesses → (calls : List Call)
