@@ -2,13 +2,12 @@
 use Prim.Native.Nat.{_/_, min}
 use mathlib.Core.Bool.{not}
 use mathlib.Core.List.{map, flatten}
-use lib.ListN.{replicate}
 use lib.Dec.{eqb}
 use Rattle.script.specs.Feeding.{State, start, fed, finished}
 use Rattle.script.specs.Session.{output}
 use Rattle.script.specs.Feeding as feeding
 use Rattle.wire.specs.Reading.{byte, tableOf}
-use Rattle.exports.specs.Types.{ℕ, _≡_, Bool, true, false, _&&_, cond, List, [], _∷_, _++_, length, take, drop, leb}
+use Rattle.exports.specs.Types.{ℕ, _≡_, Bool, true, false, _&&_, cond, List, [], _∷_, _++_, length, take, drop, replicate, leb}
 
 -- 7,312 bytes: whether a table was made, how many bytes the begun line has, 201 bytes that it stands at the front of, the table. Any so many bytes are a session: any
 -- first byte but 0 is true, and a begun line has 201 bytes at most.

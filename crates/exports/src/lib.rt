@@ -133,7 +133,7 @@ pub fn script_by_calls()
     ensures { λ _. ⌜ ByCalls ⌝ }
 {}
 
-// x, by way of a reading in a guard in a record in a table: for a test that its bits stay, a NaN's too.
+// x, by way of a reading that a table holds in a refused offer, in steps and in a collection: for a test that its bits stay, a NaN's too.
 #[no_mangle]
 pub extern "C" fn rendezvous_reading_through(x: f32) -> f32
     ensures { λ r. ⌜ r ≡ x ⌝ }
