@@ -1,5 +1,5 @@
--- To be believed. What the program makes of what the operating system answers. Of `read` and `write` the language's contracts say how many bytes they moved, and nothing of which
--- bytes those were. So a turn of the program's loop is what the system answered in it, and the definitions say how the program goes on.
+-- To be believed. What the program makes of what the operating system answers. Of `read` and `write` the contracts of libc say how many bytes they moved, and nothing of which
+-- bytes those were. So a turn of the program's loop is what the system answered in it, and the definitions say, for all answers, how the program goes on.
 use Prim.Native.Nat.{ℕ, zero, suc}
 use mathlib.Core.Path.{_≡_}
 use mathlib.Core.Bool.{Bool, true, false, cond}
@@ -13,14 +13,14 @@ use Rattle.script_main.specs.declared.Status.{Status}
 use Rattle.script_main.specs.declared.Status.the-variants.{Going, Ended, Unreadable, Unwritable, Endless}
 use Rattle.script_main.specs.declared.Progress.{Progress}
 
--- what `read` returned, the buffer after it, and whether all that the piece prints was written; -1 or no more than the buffer holds is what the system promises
+-- what `read` returned, the buffer after it, and whether all that the piece prints was written; libc promises that `read` returns -1, or no more than the buffer has
 pub record Turn : Type 0 where
   pub got : ℤ
   pub buffer : List ℕ
   pub written : Bool
   pub moved : Moved (length buffer) got
 
--- the bytes that were read
+-- the bytes that were read; a read that failed has none
 abbrev pub count : ℤ → ℕ
 count (pos n) = n
 count (negsuc n) = 0
@@ -28,7 +28,7 @@ count (negsuc n) = 0
 unfoldable pub pieceOf : Turn → List ℕ
 pieceOf t = take (count (t .got)) (t .buffer)
 
--- a negative number says that the read failed, 0 that the input has ended
+-- a negative answer says that the read failed, 0 that the input has ended
 unfoldable pub afterRead : ℤ → Status
 afterRead (negsuc n) = Unreadable
 afterRead (pos zero) = Ended
@@ -52,11 +52,11 @@ isEnded Unreadable = false
 isEnded Unwritable = false
 isEnded Endless = false
 
--- a turn writes only where its read goes on
+-- where the read does not go on, nothing is written
 unfoldable pub statusOf : Turn → Status
 statusOf t = let read = afterRead (t .got) in cond (isGoing read) (afterWrite read (t .written)) read
 
--- the pieces of a list of turns, and how it ends: turns follow while they go on, and no turn is left at `Endless`
+-- the pieces that turns read, up to the first that does not go on, and how that one ends; where all go on, there were too many
 unfoldable pub pieces : List Turn → List (List ℕ)
 pieces [] = []
 pieces (t ∷ ts) = pieceOf t ∷ cond (isGoing (statusOf t)) (pieces ts) []
@@ -65,17 +65,17 @@ unfoldable pub statusAfter : List Turn → Status
 statusAfter [] = Endless
 statusAfter (t ∷ ts) = cond (isGoing (statusOf t)) (statusAfter ts) (statusOf t)
 
--- A turn brings the program from a state to here, and left this buffer.
+-- One turn, which left this buffer, brings the program from a state to here.
 abbrev pub OneTurn : State → List ℕ → Progress → Type 0
 OneTurn s buffer here = (t : Turn) × (t .buffer ≡ buffer) × (here .status ≡ statusOf t) × (stateOf (here .session) ≡ fed s (pieceOf t) .state)
 
--- Turns bring it here. Only after as many as 64 bits count are there too many.
+-- Turns bring it from a state to here. Too many are no fewer than 64 bits can count.
 abbrev pub AllTurns : State → Progress → Type 0
 AllTurns s here =
     (ts : List Turn) × (here .status ≡ statusAfter ts) × (stateOf (here .session) ≡ fedPieces s (pieces ts) .state)
     × (here .status ≡ Endless → length ts ≡ 18446744073709551615)
 
--- Where the input has ended, what the end prints is written, and the program's last status is by that write.
+-- The last status: where the input has ended, by the write of what the end prints.
 abbrev pub AtEnd : Status → Status → Type 0
 AtEnd before after = (written : Bool) × (after ≡ cond (isEnded before) (afterWrite before written) before)
 
