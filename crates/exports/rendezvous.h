@@ -12,7 +12,9 @@
    that is C's part, and nothing checks it.
 
    A call is one step of the whole table. Where two cores share a table, hold one lock from reading the table to storing the one that
-   the call hands back. In which order the cores get the lock does not matter: that is demand 3 (crates/history/specs/Demand3.antt). */
+   the call hands back. No order in which the cores get the lock makes a wrong
+   rendezvous: that is demand 3 (crates/history/specs/Demand3.antt). But an order can keep one from happening: step EVERY process once
+   a round, in number order, as examples/link/tasks.c does (README.md, "The loop of a task" and "Order and progress"). */
 #ifndef RENDEZVOUS_H
 #define RENDEZVOUS_H
 

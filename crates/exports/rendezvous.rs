@@ -11,8 +11,11 @@
 //! returns false.
 //!
 //! A call is one step of the whole table. Where two cores share a table, hold one lock from
-//! reading the table to storing the one that the call hands back. In which order the cores get
-//! the lock does not matter: that is demand 3 (crates/history/specs/Demand3.antt).
+//! reading the table to storing the one that the call hands back. No order in which
+//! the cores get the lock makes a wrong rendezvous: that is demand 3
+//! (crates/history/specs/Demand3.antt). But an order can keep one from happening: step EVERY process
+//! once a round, in number order, as examples/link/tasks.rs does (README.md, "The loop of a task" and
+//! "Order and progress").
 
 // A program calls only what it needs.
 #![allow(dead_code)]
