@@ -1,4 +1,5 @@
-/* ./run --trace: tells, for each rendezvous of the script on standard input, which way its message went, station by station.
+/* ./run --trace: tells, for each rendezvous of the script on standard input, which way its message went, station by station, and at the
+   end which offers have not met, which outcomes are not collected, and which lines were refused.
    The script goes to the proved library a line at a time. What a station shows is read out of the table's own bytes, as they stood
    just before and just after that line, and at a collection out of what the line printed; the forms are those of rendezvous.h.
    Each station is held against the guards as the script wrote them; between stations, no line may change what a record holds of them. */
@@ -8,9 +9,11 @@
 #include <stdlib.h>
 #include <string.h>
 
-/* Where a record has what. */
-enum { PLACE = 0, INDEX = 1, KEPT = 2, OUTCOME = 3, SIGNAL = 12, SIGNAL_MESSAGE = 14, TICKET = 23, ACCEPTING = 27, OWN = 30, POSTED = 126 };
+/* Where a session has its records, and what a record, a guard and a message have where (docs/BYTES.md). */
 enum { PROCESSES = 32, GUARDS = 8, FIRST_RECORD = RENDEZVOUS_SESSION - RENDEZVOUS_TABLE + 5, RECORD = 222 };
+enum { PLACE = 0, INDEX = 1, KEPT = 2, OUTCOME = 3, SIGNAL = 12, SIGNAL_MESSAGE = 14, TICKET = 23, ACCEPTING = 27, OWN = 30, POSTED = 126 };
+enum { ENABLED = 0, PARTNER = 1, SENDS = 2, MESSAGE = 3 };
+enum { KIND = 0, VALUE = 1, HIGH = 5 };
 /* A line that is taken has at most 200 bytes, so it is one piece. */
 enum { PIECE = 256 };
 /* Both offer; the waiter posts, opens, waits; one commits and signals, one absorbs; both collect. */
@@ -18,9 +21,9 @@ enum { STATIONS = 10 };
 /* So many rendezvous wait for an older one to be told. At most PROCESSES of them have a collection due. */
 enum { STORIES = 256 };
 
-/* A message or guard as a script writes it; the longest is -31!l and sixteen digits. */
+/* A message or guard as a script writes it, a message perhaps with its decimals: the longest is a limit with both. */
 typedef struct {
-    char text[32];
+    char text[80];
 } Text;
 
 typedef struct {
@@ -47,8 +50,10 @@ typedef struct {
 typedef struct {
     char offer[PIECE + 1]; /* the script's line */
     Seen seen[ALONE];
-    unsigned long story; /* the number of its rendezvous, until it collects; 0 is none */
-    unsigned guard;      /* its guard in that */
+    unsigned long moved, stepped; /* the lines where it came to its place and where it last took a step; 0 is none */
+    unsigned long story;          /* the number of its rendezvous, until it collects; 0 is none */
+    unsigned guard;               /* its guard in that */
+    Text due;                     /* and what it will collect */
 } Process;
 
 static uint8_t before[RENDEZVOUS_SESSION], after[RENDEZVOUS_SESSION];
@@ -58,6 +63,7 @@ static Process processes[PROCESSES];
 static Story stories[STORIES];
 static size_t held;
 static unsigned long rendezvous;
+static unsigned long refused, first_refused, first_number;
 static bool differs;
 
 static _Noreturn void fail(const char *what) {
@@ -74,18 +80,19 @@ static uint32_t word(const uint8_t *bytes) {
 
 static Text message_in(const uint8_t *bytes) {
     Text m = {"0"};
-    if (bytes[0] == 1) snprintf(m.text, sizeof m.text, "w%ld", (long)(int32_t)word(bytes + 1));
-    if (bytes[0] == 2) snprintf(m.text, sizeof m.text, "r%08lx", (unsigned long)word(bytes + 1));
-    if (bytes[0] == 3) snprintf(m.text, sizeof m.text, "l%08lx%08lx", (unsigned long)word(bytes + 1), (unsigned long)word(bytes + 5));
-    if (bytes[0] > 3) snprintf(m.text, sizeof m.text, "kind %u", bytes[0]);
+    unsigned long value = word(bytes + VALUE), high = word(bytes + HIGH);
+    if (bytes[KIND] == 1) snprintf(m.text, sizeof m.text, "w%ld", (long)(int32_t)value);
+    if (bytes[KIND] == 2) snprintf(m.text, sizeof m.text, "r%08lx", value);
+    if (bytes[KIND] == 3) snprintf(m.text, sizeof m.text, "l%08lx%08lx", value, high);
+    if (bytes[KIND] > 3) snprintf(m.text, sizeof m.text, "kind %u", bytes[KIND]);
     return m;
 }
 
 /* Guard i of the own or the posted list of a record. */
 static Text guard_in(const uint8_t *process, unsigned list, unsigned i) {
     const uint8_t *bytes = process + list + RENDEZVOUS_GUARD * i;
-    Text g;
-    snprintf(g.text, sizeof g.text, "%s%u%s%.20s", bytes[0] ? "" : "-", bytes[1], bytes[2] ? "!" : "?", bytes[2] ? message_in(bytes + 3).text : "");
+    Text g, message = bytes[SENDS] ? message_in(bytes + MESSAGE) : (Text){""};
+    snprintf(g.text, sizeof g.text, "%s%u%s%.20s", bytes[ENABLED] ? "" : "-", bytes[PARTNER], bytes[SENDS] ? "!" : "?", message.text);
     return g;
 }
 
@@ -109,6 +116,24 @@ static Text message_written(Text guard) {
 }
 
 static Text named(Text message) { return strcmp(message.text, "0") ? message : (Text){"nothing (0)"}; }
+
+/* The f32 whose bits eight hexadecimal digits are. */
+static double value_of(const char *digits) {
+    unsigned long bits = 0;
+    float value;
+    sscanf(digits, "%8lx", &bits);
+    memcpy(&value, &(uint32_t){bits}, sizeof value);
+    return value;
+}
+
+/* The message with each f32 in decimal beside its bits. Nine digits are enough to tell any two f32 apart. */
+static Text readable(Text message) {
+    Text shown = named(message);
+    const char *m = message.text;
+    if (*m == 'r') snprintf(shown.text, sizeof shown.text, "%.9s (%.9g)", m, value_of(m + 1));
+    if (*m == 'l') snprintf(shown.text, sizeof shown.text, "%.17s (low %.9g, high %.9g)", m, value_of(m + 1), value_of(m + 9));
+    return shown;
+}
 
 /* Adds a station in the order of lines. */
 __attribute__((format(printf, 3, 4))) static Station *add(Story *story, unsigned long at, const char *words, ...) {
@@ -136,18 +161,17 @@ static Text due(const Story *story, unsigned p) { return story->to == p ? story-
 static void tell(size_t s) {
     const Story *story = &stories[s];
     unsigned long first = 0;
-    printf("rendezvous %lu: %s from process %u to process %u\n", story->number, named(story->message).text, story->from, story->to);
+    printf("rendezvous %lu: %s from process %u to process %u\n", story->number, readable(story->message).text, story->from, story->to);
     for (size_t k = 0; k < story->count; k++) {
         const Station *station = &story->stations[k];
         const char *wanted = station->wanted.text;
         printf("  line %-6lu %s%s%s\n", station->line, station->words, *wanted ? " <- not " : "", wanted);
         if (*wanted && first == 0) first = station->line;
     }
-    if (story->due > 0) printf("  (%s of the two has%s collected)\n", story->due == 1 ? "one" : "neither", story->due == 1 ? " not" : "");
     if (first > 0)
         printf("  not the same bits: line %lu is the first station that differs\n", first);
     else
-        printf("  the same bits at every station\n");
+        printf("  the same bits at every station%s\n", story->due > 0 ? " so far" : "");
     differs = differs || first > 0;
     held--;
     memmove(&stories[s], &stories[s + 1], (held - s) * sizeof stories[0]);
@@ -205,6 +229,7 @@ static void waits(unsigned p) { see(p, WAITS); }
 static void join(Story *story, unsigned p, unsigned i) {
     processes[p].story = story->number;
     processes[p].guard = i;
+    processes[p].due = due(story, p);
     for (unsigned what = OFFERS; what < ALONE; what++) add_seen(story, p, what);
 }
 
@@ -212,8 +237,8 @@ static void commits(unsigned p) {
     const uint8_t *own = record(after, p);
     unsigned i = own[INDEX], j = own[KEPT];
     if (i >= GUARDS || j >= GUARDS) fail("a commit names no guard");
-    unsigned q = own[OWN + RENDEZVOUS_GUARD * i + 1];
-    bool sends = own[OWN + RENDEZVOUS_GUARD * i + 2];
+    unsigned q = own[OWN + RENDEZVOUS_GUARD * i + PARTNER];
+    bool sends = own[OWN + RENDEZVOUS_GUARD * i + SENDS];
     if (q >= PROCESSES) fail("a commit names no process");
     const uint8_t *partner = record(after, q);
     Text mine = guard_in(own, OWN, i), kept = guard_in(partner, POSTED, j);
@@ -251,7 +276,7 @@ static void collects(unsigned p) {
     unsigned i, q;
     Text message;
     if (sscanf(printed, "c %*u %u %u %31s", &i, &q, message.text) != 3) fail("a collection prints no message");
-    want(add(story, line, "process %u collects %s from its rendezvous with process %u, as its guard %u", p, named(message).text, q, i), message,
+    want(add(story, line, "process %u collects %s from its rendezvous with process %u, as its guard %u", p, readable(message).text, q, i), message,
          due(story, p));
     story->due--;
     processes[p].story = 0;
@@ -275,6 +300,35 @@ static char place(const uint8_t *session, unsigned p) {
     return "IEATCPOHSWM"[at];
 }
 
+/* An offer that has not met, or an outcome that is not collected: whose, and where that process stands. */
+static void tell_left(const uint8_t *session, unsigned p) {
+    const Process *process = &processes[p];
+    char at = place(session, p);
+    if (process->story > 0)
+        printf("  not collected: %s for process %u of rendezvous %lu", readable(process->due).text, p, process->story);
+    else
+        printf("  not met: the offer of process %u at line %lu, ticket %lu", p, process->seen[OFFERS].line, (unsigned long)word(record(session, p) + TICKET));
+    printf(" (at %c", at);
+    if (strchr("ATC", at)) printf("%u", record(session, p)[INDEX]);
+    printf(" since line %lu, ", process->moved);
+    if (process->stepped > 0)
+        printf("last step at line %lu)\n", process->stepped);
+    else
+        printf("no step yet)\n");
+}
+
+/* What is left of a table where it ends, under a heading. Gives whether anything is. */
+static bool tell_all_left(const uint8_t *session, Text heading) {
+    bool any = false;
+    for (unsigned p = 0; p < PROCESSES; p++) {
+        if (place(session, p) == 'I') continue;
+        if (!any) puts(heading.text);
+        tell_left(session, p);
+        any = true;
+    }
+    return any;
+}
+
 /* Lists change where their process offers or posts, an outcome where it moves, a signal where there was none or it moves. */
 static void see_stray(unsigned p, char from, char to) {
     const uint8_t *old = record(before, p), *new = record(after, p);
@@ -287,20 +341,42 @@ static void see_stray(unsigned p, char from, char to) {
     differs = true;
 }
 
-/* What the line did, by the tables before and after it. An accepted `n` ends every story. */
+/* What the line did to process p. */
+static void look_at(unsigned p) {
+    const uint8_t *old = record(before, p), *new = record(after, p);
+    char from = place(before, p), to = place(after, p);
+    see_stray(p, from, to);
+    for (size_t k = 0; from != to && k < sizeof moves / sizeof moves[0]; k++)
+        if (from == moves[k].from && to == moves[k].to) moves[k].station(p);
+    if (from != to || old[INDEX] != new[INDEX]) processes[p].moved = line;
+}
+
+/* The old table ends, and with it every story. */
+static void begin_table(void) {
+    Text heading;
+    snprintf(heading.text, sizeof heading.text, "left at line %lu, which makes a new table:", line);
+    tell_all();
+    tell_all_left(before, heading);
+    memset(processes, 0, sizeof processes);
+}
+
+static void refuse(void) {
+    if (refused++ > 0) return;
+    first_refused = line;
+    first_number = strtoul(printed + 2, NULL, 10);
+}
+
+/* What the line did, by what it printed and the tables before and after it. */
 static void look(void) {
+    unsigned stepped;
     line++;
     if (printed[0] == 'n') {
-        tell_all();
-        memset(processes, 0, sizeof processes);
+        begin_table();
         return;
     }
-    for (unsigned p = 0; p < PROCESSES; p++) {
-        char from = place(before, p), to = place(after, p);
-        see_stray(p, from, to);
-        for (size_t k = 0; from != to && k < sizeof moves / sizeof moves[0]; k++)
-            if (from == moves[k].from && to == moves[k].to) moves[k].station(p);
-    }
+    if (printed[0] == 'x') refuse();
+    for (unsigned p = 0; p < PROCESSES; p++) look_at(p);
+    if (sscanf(printed, "s %u", &stepped) == 1 && stepped < PROCESSES) processes[stepped].stepped = line;
 }
 
 /* Reads up to the end of a line, or as much of it as a piece has. */
@@ -323,6 +399,23 @@ static void feed(size_t length) {
     printed[filled] = 0;
 }
 
+/* A last line that is not ended is refused, and changes nothing. */
+static void finish(void) {
+    if (rendezvous_script_finish(after, sizeof after, (uint8_t *)printed, sizeof printed - 1) == 0) return;
+    line++;
+    refuse();
+}
+
+static void tell_end(void) {
+    tell_all();
+    if (rendezvous == 0) puts("no rendezvous");
+    if (!tell_all_left(after, (Text){"left at the end:"})) puts("left at the end: nothing");
+    if (refused == 0)
+        puts("lines refused: none");
+    else
+        printf("lines refused: %lu of %lu, the first is line %lu with %lu\n", refused, line, first_refused, first_number);
+}
+
 int main(void) {
     size_t length;
     if (!rendezvous_script_start(after, sizeof after)) fail("the library gives no session");
@@ -331,8 +424,8 @@ int main(void) {
         if (piece[length - 1] == '\n') look();
     }
     if (ferror(stdin)) fail("standard input cannot be read");
-    tell_all();
-    if (rendezvous == 0) puts("no rendezvous");
+    finish();
+    tell_end();
     if (fflush(stdout) != 0 || ferror(stdout)) fail("standard output cannot be written");
     return differs;
 }

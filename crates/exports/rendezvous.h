@@ -1,18 +1,20 @@
 /* The proved library for C: the calls on a process table and the script program, on lent bytes. A program includes this file and links
    libexports.a. Every function is proved for all arguments; what each gives is defined in crates/wire/specs and crates/exports/specs.
 
-   docs/BYTES.md has the forms of a table, a guard, an answer and a session. Any bytes are read as a table. A refused call writes the
-   table that it read, in this form: the same bytes if they were in this form, else the same table with such bytes replaced (a NaN's
-   payload, a tag past the last, a flag other than 0 and 1, anything but 0 in unused bytes).
+   docs/BYTES.md has the forms of a table, a guard, an answer and a session. Any RENDEZVOUS_TABLE bytes are read as a table. A refused
+   call writes the table that it read, in this form: the same bytes if they were in this form, else the same table with such bytes
+   replaced (a NaN's payload, a tag past the last, a flag other than 0 and 1, anything but 0 in unused bytes).
 
-   `out` takes the table that a call hands back and `answer` the answer, each at its front. A buffer that is too short stays as
-   it is, and the call returns false.
+   `out` takes the table that a call hands back and `answer` the answer, each at its front. If one of `table`, `out` and `answer` is
+   too short, the call does nothing: no buffer changes, and it returns false.
 
    The buffers of a call must not overlap. Every pointer must be valid for its length, and `taken` and `filled` must point to a size_t:
    that is C's part, and nothing checks it.
 
    A call is one step of the whole table. Where two cores share a table, hold one lock from reading the table to storing the one that
-   the call hands back. In which order the cores get the lock does not matter: that is demand 3 (crates/history/specs/Demand3.antt). */
+   the call hands back. No order in which the cores get the lock makes a wrong
+   rendezvous: that is demand 3 (crates/history/specs/Demand3.antt). But an order can keep one from happening: step EVERY process once
+   a round, in number order, as examples/link/tasks.c does (README.md, "The loop of a task" and "Order and progress"). */
 #ifndef RENDEZVOUS_H
 #define RENDEZVOUS_H
 
@@ -50,16 +52,17 @@ bool rendezvous_script_start(uint8_t *state, size_t state_length);
 
 /* Feeds a piece of the input to a session. As many bytes of the piece are taken as `out` has room for if each of them ends a line: the
    least of piece_length and out_length / RENDEZVOUS_LINE. `taken` is set to how many that is; feed the rest next. What they print goes
-   to the front of `out`, and `filled` is set to how many bytes that is. `after` takes the session after them; if it is too short, it
-   stays as it is and the call returns false. */
+   to the front of `out`, and `filled` is set to how many bytes that is. `after` takes the session after them. If `state` or `after`
+   has less than RENDEZVOUS_SESSION bytes, no buffer changes, `taken` and `filled` are set to 0, and the call returns false. */
 bool rendezvous_script_feed(const uint8_t *state, size_t state_length, const uint8_t *piece, size_t piece_length, uint8_t *after,
                             size_t after_length, uint8_t *out, size_t out_length, size_t *taken, size_t *filled);
 
-/* What the end of the input prints, to the front of `out`, and how many bytes that is: an unended last line is malformed. An `out`
-   of less than RENDEZVOUS_LINE bytes stays as it is, and the call returns 0. */
+/* What the end of the input prints, to the front of `out`, and how many bytes that is: an unended last line is malformed. If `out` has
+   less than RENDEZVOUS_LINE bytes, or `state` less than RENDEZVOUS_SESSION, `out` stays as it is and the call returns 0. */
 size_t rendezvous_script_finish(const uint8_t *state, size_t state_length, uint8_t *out, size_t out_length);
 
-/* An f32, handed back by way of a message in a guard in a record in a table: for tests of its bits. */
+/* For tests of an f32's bits, a NaN's too: it is handed back by way of a message that a table holds in a refused offer, in steps that post
+   it, commit, hand it over, signal and absorb it, and in collections. */
 float rendezvous_reading_through(float x);
 float rendezvous_low_through(float low, float high);
 float rendezvous_high_through(float low, float high);

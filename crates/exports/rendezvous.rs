@@ -6,12 +6,16 @@
 //!
 //! docs/BYTES.md has the forms of a table, a guard, an answer and a session.
 //!
-//! `out` takes the table that a call hands back and `answer` the answer, each at its front. A
-//! buffer that is too short stays as it is, and the call returns false.
+//! `out` takes the table that a call hands back and `answer` the answer, each at its front. If one
+//! of `table`, `out` and `answer` is too short, the call does nothing: no buffer changes, and it
+//! returns false.
 //!
 //! A call is one step of the whole table. Where two cores share a table, hold one lock from
-//! reading the table to storing the one that the call hands back. In which order the cores get
-//! the lock does not matter: that is demand 3 (crates/history/specs/Demand3.antt).
+//! reading the table to storing the one that the call hands back. No order in which
+//! the cores get the lock makes a wrong rendezvous: that is demand 3
+//! (crates/history/specs/Demand3.antt). But an order can keep one from happening: step EVERY process
+//! once a round, in number order, as examples/link/tasks.rs does (README.md, "The loop of a task" and
+//! "Order and progress").
 
 // A program calls only what it needs.
 #![allow(dead_code)]
@@ -114,7 +118,8 @@ pub fn script_start(state: &mut [u8]) -> bool {
 /// Feeds a piece of the input to a session. As many bytes of the piece are taken as `out` has room
 /// for if each of them ends a line: the least of `piece.len()` and `out.len() / LINE`; feed the
 /// rest next. What they print goes to the front of `out`, and `after` takes the session after
-/// them. Gives how many bytes were taken and how many printed; none if `after` is too short.
+/// them. Gives how many bytes were taken and how many printed; none, with no buffer changed, if
+/// `state` or `after` is too short.
 #[must_use]
 pub fn script_feed(
     state: &[u8],
@@ -140,15 +145,17 @@ pub fn script_feed(
     kept.then_some((taken, filled))
 }
 
-/// What the end of the input prints, to the front of `out`, and how many bytes that is. An `out`
-/// of less than `LINE` bytes stays as it is, and the call returns 0.
+/// What the end of the input prints, to the front of `out`, and how many bytes that is. If `out`
+/// has less than `LINE` bytes, or `state` less than `SESSION`, `out` stays as it is and the call
+/// returns 0.
 #[must_use]
 pub fn script_finish(state: &[u8], out: &mut [u8]) -> usize {
     unsafe { rendezvous_script_finish(state.as_ptr(), state.len(), out.as_mut_ptr(), out.len()) }
 }
 
-/// An f32, handed back by way of a message in a guard in a record in a table: for tests of its
-/// bits.
+/// For tests of an f32's bits, a NaN's too: it is handed back by way of a message that a table
+/// holds in a refused offer, in steps that post it, commit, hand it over, signal and absorb it, and
+/// in collections.
 pub fn reading_through(x: f32) -> f32 {
     unsafe { rendezvous_reading_through(x) }
 }

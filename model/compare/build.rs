@@ -1,16 +1,22 @@
-//! Links the proved library, which `rt staticlib exports` makes.
+//! Links the proved library, which `rt staticlib exports` makes, and hands its mark on to the
+//! program. The folder is told relative to this package, so that a copy of the repository, with
+//! what cargo keeps in it, links its own archive.
 
-use std::path::Path;
+#[path = "src/mark.rs"]
+mod mark;
+
 use std::process::exit;
 
+const FOLDER: &str = "../../target/staticlib";
+
 fn main() {
-    let folder = Path::new(env!("CARGO_MANIFEST_DIR")).join("../../target/staticlib");
-    let archive = folder.join("libexports.a");
-    println!("cargo:rerun-if-changed={}", archive.display());
-    if !archive.exists() {
+    let archive = format!("{FOLDER}/libexports.a");
+    println!("cargo:rerun-if-changed={archive}");
+    let Ok(bytes) = std::fs::read(archive) else {
         eprintln!("target/staticlib/libexports.a is not there: run `rt staticlib exports` first.");
         exit(1);
-    }
-    println!("cargo:rustc-link-search=native={}", folder.display());
+    };
+    println!("cargo:rustc-env=LINKED_ARCHIVE={}", mark::of(&bytes));
+    println!("cargo:rustc-link-search=native={FOLDER}");
     println!("cargo:rustc-link-lib=static=exports");
 }

@@ -10,14 +10,14 @@ use Rattle.script.proofs.Cuts.{pieces-hold}
 use Rattle.exports.specs.Scripts.{stateIn, Feeds, Call, takenBy, filledBy, Chained, leftBy, ByCalls}
 
 -- what a call prints, and the state that it leaves
-module _ (state : List ℕ) (c : Call) (f : Feeds (stateIn state) (c .piece) (c .after) (c .out) (c .after′) (c .out′) (c .taken) (c .filled) true) where
+module _ (state : List ℕ) (c : Call) (f : Feeds state (c .piece) (c .after) (c .out) (c .after′) (c .out′) (c .taken) (c .filled) true) where
   prints-one : filledBy c ≡ fed (stateIn state) (takenBy c) .prints
   prints-one =
       let p : List ℕ = fed (stateIn state) (takenBy c) .prints in
       rw (f .prints) (ap (λ (n : ℕ). take n (p ++ drop (c .filled) (c .out))) (f .fills) ∙ take-append-seam p (drop (c .filled) (c .out)))
 
   leaves-one : stateIn (c .after′) ≡ fed (stateIn state) (takenBy c) .state
-  leaves-one = f .state .read-back refl
+  leaves-one = f .keeps .read-back refl
 
 prints-all : (state : List ℕ) (cs : List Call) → Chained state cs → flatten (map filledBy cs) ≡ fedPieces (stateIn state) (map takenBy cs) .prints
 unfolding fedPieces Chained flatten

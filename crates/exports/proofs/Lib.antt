@@ -1,3 +1,4 @@
 pub mod Chains
 pub mod Forms
 pub mod Sessions
+pub mod Ways

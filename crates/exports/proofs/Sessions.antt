@@ -1,7 +1,7 @@
 -- A session's bytes, written part by part, are read as its state; and a text put at the front.
 use Prim.Native.Nat.{ℕ, zero, suc, _+_, _≤_, min}
 use mathlib.Core.Path.{_≡_, refl, sym, ap, _∙_}
-use mathlib.Core.Bool.{true, cond, true≢false}
+use mathlib.Core.Bool.{Bool, true, false, cond, true≢false, false≢true}
 use mathlib.Core.List.{List, [], _∷_, _++_, append-assoc, append-nil}
 use native.Mathlib.Omega.{arith}
 use borrow.Author.Needs.{length-unmapped}
@@ -14,7 +14,7 @@ use lib.ListN.{length, take, drop, set, replicate, length-append, length-take}
 use lib.Seq.{sets, take-all, drop-length, take-append-seam, drop-append-seam}
 use Rattle.text.specs.declared.Text.{Text}
 use Rattle.text.specs.Writing.{shown}
-use Rattle.script.specs.Feeding.{stateOf}
+use Rattle.script.specs.Feeding.{State, stateOf}
 use Rattle.script.specs.declared.Session.{Session}
 use Rattle.script.proofs.Session as session
 use Rattle.script.proofs.Lists.{take-most}
@@ -86,10 +86,15 @@ module _ (s : Session) (long : length (s .bytes) ≡ 201) (table : Faithful (s .
       let e : whole rest ≡ ((two ++ s .bytes) ++ bytesOf (s .table)) ++ rest = ap (λ (r : List ℕ). two ++ r) (sym (append-assoc (s .bytes) (bytesOf (s .table)) rest)) in
       rw e (ap (λ (n : ℕ). drop n (((two ++ s .bytes) ++ bytesOf (s .table)) ++ rest)) (sym form-length) ∙ drop-append-seam ((two ++ s .bytes) ++ bytesOf (s .table)) rest)
 
-  pub session-kept : (l l′ : List ℕ) → 7312 ≤ length l → l′ ≡ sets (sets (sets l 0 two) 2 (s .bytes)) 203 (bytesOf (s .table)) → Keeps (stateOf s) l l′ true
+  pub session-kept : (l l′ : List ℕ) → 7312 ≤ length l → l′ ≡ sets (sets (sets l 0 two) 2 (s .bytes)) 203 (bytesOf (s .table)) → Keeps true (stateOf s) l l′ true
   session-kept l l′ h e =
       let laid : l′ ≡ whole (drop 7312 l) = e ∙ session-laid l h in
       record { enough = sym (le-leb 7312 (length l) h); read-back = λ y. rw laid (session-read (drop 7312 l)); behind = rw laid (session-behind (drop 7312 l)); short = λ n. absurd (true≢false n) }
+
+-- a session that is read may be long enough too
+pub kept-read : (read : Bool) (s : State) (l l′ : List ℕ) (whole : Bool) → read ≡ true → Keeps true s l l′ whole → Keeps read s l l′ whole
+kept-read true s l l′ whole e k = k
+kept-read false s l l′ whole e k = absurd (false≢true e)
 
 -- a text of 64 bytes at most
 pub text-put : (t : Text) → length (t .bytes) ≡ 64 → (l : List ℕ) (count : ℕ) → 64 ≤ length l → count ≡ min (t .length) 64

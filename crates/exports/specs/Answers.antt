@@ -1,8 +1,8 @@
--- To be believed. What an exported call hands back: the table in its byte form, the answer in a form of 16 bytes, and whether both buffers were long enough.
+-- To be believed. What an exported call hands back: the table in its byte form, the answer in a form of 16 bytes, and whether the table given and both buffers were long enough.
 use Rattle.rendezvous.specs.Numbers.{Said, said, made, ticket, place, same, outcome, movers, refusal}
 use Rattle.wire.specs.Claims.{Faithful}
-use Rattle.wire.specs.Writing.{wordBytes, messageBytes, tableLength, bytesOf, onto}
-use Rattle.exports.specs.Types.{ℕ, _≡_, Bool, _&&_, List, [], _∷_, _++_, Option, some, none, length, leb, Message, Nothing, Reply}
+use Rattle.wire.specs.Writing.{wordBytes, messageBytes, tableLength, bytesOf}
+use Rattle.exports.specs.Types.{ℕ, _≡_, Bool, true, _&&_, cond, List, [], _∷_, _++_, Option, some, none, length, drop, leb, Message, Nothing, Reply}
 
 -- the kind of answer, two bytes, a message, a word
 abbrev pub answerForm : ℕ → ℕ → ℕ → Message → ℕ → List ℕ
@@ -28,10 +28,14 @@ saidBytes (outcome i q m) = answerForm 4 i q m 0
 saidBytes (movers set) = answerForm 5 0 0 Nothing set
 saidBytes (refusal number) = answerForm 6 number 0 Nothing 0
 
--- The buffers as they were and as they are left, and what the call returns. A buffer that is too short stays as it is. The next call reads the bytes as the very table
--- that this one hands back.
-pub record Gives (reply : Reply) (table answer table′ answer′ : List ℕ) (whole : Bool) : Type 0 where
-  pub table-given : table′ ≡ onto tableLength (bytesOf (reply .table)) table
-  pub answer-given : answer′ ≡ onto answerLength (saidBytes (said (reply .answer))) answer
-  pub faithful : Faithful (reply .table)
-  pub both : whole ≡ leb tableLength (length table) && leb answerLength (length answer)
+-- whether bytes are enough for a table
+abbrev pub isTable : List ℕ → Bool
+isTable bytes = leb tableLength (length bytes)
+
+-- The buffers as they were and as they are left, and what the call returns: whether the table that it reads (`read`) and both buffers are long enough. If one of them is not,
+-- nothing is written at all; else each form stands at the front of its buffer, and the next call reads the bytes as the very table that this one hands back.
+pub record Gives (read : Bool) (reply : Reply) (table answer table′ answer′ : List ℕ) (whole : Bool) : Type 0 where
+  pub enough : whole ≡ (read && isTable table && leb answerLength (length answer))
+  pub table-given : table′ ≡ cond whole (bytesOf (reply .table) ++ drop tableLength table) table
+  pub answer-given : answer′ ≡ cond whole (saidBytes (said (reply .answer)) ++ drop answerLength answer) answer
+  pub faithful : whole ≡ true → Faithful (reply .table)

@@ -3,17 +3,15 @@ use alternative::Message;
 use process::Place;
 use rendezvous::Answer;
 use rendezvous::Reply;
+use wire::TABLE_BYTES;
 use wire::encode;
 use wire::message_bytes;
 use wire::put_bytes;
 use wire::word_bytes;
 ghost use mathlib.Core.Path.{_≡_};
-ghost use lib.Dec.{leb};
-ghost use lib.ListN.{length};
-ghost use Rattle.wire.specs.Writing.{onto};
 ghost use Rattle.rendezvous.specs.Numbers.{said};
 ghost use Rattle.process.specs.Process.{indexOf};
-ghost use Rattle.exports.specs.Answers.{answerForm, answerLength, indexByte, saidBytes, Gives};
+ghost use Rattle.exports.specs.Answers.{answerForm, indexByte, saidBytes, isTable, Gives};
 
 fn answer_form(kind: u8, a: u8, b: u8, m: Message, word: u32) -> [u8; 16]
     ensures { λ r. ⌜ r ≡ answerForm kind a b m word ⌝ }
@@ -67,25 +65,25 @@ fn answer_bytes(answer: Answer) -> [u8; 16]
     }
 }
 
-// Writes the answer's form to the front of `out`, or nothing if `out` is too short, and says whether it wrote.
-fn put_answer(answer: Answer, out: &mut [u8]) -> bool
-    ensures { λ r. ⌜ (r ≡ leb answerLength (length (now (out .entry)))) × (now (out .exit) ≡ onto answerLength (saidBytes (said answer)) (now (out .entry))) ⌝ }
+// Whether bytes are enough for a table.
+pub fn is_table(bytes: &[u8]) -> bool
+    ensures { λ r. ⌜ r ≡ isTable (now (bytes .entry)) ⌝ }
 {
-    let form = answer_bytes(answer);
-    if out.len() < 16 {
-        return false;
-    }
-    put_bytes(out, 0, &form);
-    true
+    TABLE_BYTES <= bytes.len()
 }
 
-// Writes a reply into two buffers, and says whether both were long enough.
-pub fn give(reply: Reply, table: &mut [u8], answer: &mut [u8]) -> bool
-    ensures { λ r. ⌜ Gives reply (now (table .entry)) (now (answer .entry)) (now (table .exit)) (now (answer .exit)) r ⌝ }
+// Writes a reply into two buffers and says that it did; writes nothing if one of them is too short, or if the table that was read (`read`) was.
+pub fn give(read: bool, reply: Reply, table: &mut [u8], answer: &mut [u8]) -> bool
+    ensures { λ r. ⌜ Gives read reply (now (table .entry)) (now (answer .entry)) (now (table .exit)) (now (answer .exit)) r ⌝ }
 {
+    let whole = read & (TABLE_BYTES <= table.len()) & (16 <= answer.len());
+    if !whole {
+        return false;
+    }
     let t = reply.table;
     let a = reply.answer;
-    let first = encode(t, table);
-    let second = put_answer(a, answer);
-    first & second
+    encode(t, table);
+    let form = answer_bytes(a);
+    put_bytes(answer, 0, &form);
+    true
 }

@@ -1,20 +1,24 @@
 // Every call for programs in other languages: a table, or a session of the script program, goes in and comes back in its byte form,
-// numbers go as they are. No call asks anything of its arguments: any bytes are a table or a session, and a table may be damaged.
+// numbers go as they are. No call asks anything of its arguments: any bytes that are enough are a table or a session, and a table may be
+// damaged. A call on too few bytes, or with a buffer that is too short, does nothing.
 use rendezvous::ProcessTable;
 use wire::decode;
 use wire::offer_of;
 ghost use mathlib.Core.Path.{_≡_};
+ghost use mathlib.Core.Bool.{true};
 ghost use Rattle.rendezvous.specs.Calls.{create, offer, step, collect, runnable};
 ghost use Rattle.wire.specs.Reading.{tableOf, offerOf};
 ghost use Rattle.script.specs.Feeding.{start};
-ghost use Rattle.exports.specs.Answers.{Gives};
-ghost use Rattle.exports.specs.Scripts.{stateIn, Keeps, Feeds, Finishes, ByCalls};
+ghost use Rattle.exports.specs.Answers.{isTable, Gives};
+ghost use Rattle.exports.specs.Scripts.{Keeps, Feeds, Finishes, ByCalls};
 
 mod answers;
 mod scripts;
 mod through;
 
 use answers::give;
+use answers::is_table;
+use scripts::SESSION_BYTES;
 use scripts::put_session;
 use scripts::put_text;
 use scripts::session_in;
@@ -27,9 +31,9 @@ struct Pair(f32, f32);
 // A fresh table of n processes.
 #[no_mangle]
 pub extern "C" fn rendezvous_create(n: u8, out: &mut [u8], answer: &mut [u8]) -> bool
-    ensures { λ r. ⌜ Gives (create n) (now (out .entry)) (now (answer .entry)) (now (out .exit)) (now (answer .exit)) r ⌝ }
+    ensures { λ r. ⌜ Gives true (create n) (now (out .entry)) (now (answer .entry)) (now (out .exit)) (now (answer .exit)) r ⌝ }
 {
-    give(ProcessTable::create(n), out, answer)
+    give(true, ProcessTable::create(n), out, answer)
 }
 
 // An offer by process p. `guards` holds twelve bytes for each guard, of any number of them.
@@ -41,46 +45,51 @@ pub extern "C" fn rendezvous_offer(
     out: &mut [u8],
     answer: &mut [u8],
 ) -> bool
-    ensures { λ r. ⌜ Gives (offer (tableOf (now (table .entry))) p (offerOf (now (guards .entry)))) (now (out .entry)) (now (answer .entry)) (now (out .exit)) (now (answer .exit)) r ⌝ }
+    ensures { λ r. ⌜ Gives (isTable (now (table .entry))) (offer (tableOf (now (table .entry))) p (offerOf (now (guards .entry)))) (now (out .entry)) (now (answer .entry)) (now (out .exit)) (now (answer .exit)) r ⌝ }
 {
     let list = offer_of(guards);
-    give(decode(table).offer_list(p, list), out, answer)
+    give(
+        is_table(table),
+        decode(table).offer_list(p, list),
+        out,
+        answer,
+    )
 }
 
 // A step of process p.
 #[no_mangle]
 pub extern "C" fn rendezvous_step(table: &[u8], p: u8, out: &mut [u8], answer: &mut [u8]) -> bool
-    ensures { λ r. ⌜ Gives (step (tableOf (now (table .entry))) p) (now (out .entry)) (now (answer .entry)) (now (out .exit)) (now (answer .exit)) r ⌝ }
+    ensures { λ r. ⌜ Gives (isTable (now (table .entry))) (step (tableOf (now (table .entry))) p) (now (out .entry)) (now (answer .entry)) (now (out .exit)) (now (answer .exit)) r ⌝ }
 {
-    give(decode(table).step(p), out, answer)
+    give(is_table(table), decode(table).step(p), out, answer)
 }
 
 // A collection from process p.
 #[no_mangle]
 pub extern "C" fn rendezvous_collect(table: &[u8], p: u8, out: &mut [u8], answer: &mut [u8]) -> bool
-    ensures { λ r. ⌜ Gives (collect (tableOf (now (table .entry))) p) (now (out .entry)) (now (answer .entry)) (now (out .exit)) (now (answer .exit)) r ⌝ }
+    ensures { λ r. ⌜ Gives (isTable (now (table .entry))) (collect (tableOf (now (table .entry))) p) (now (out .entry)) (now (answer .entry)) (now (out .exit)) (now (answer .exit)) r ⌝ }
 {
-    give(decode(table).collect(p), out, answer)
+    give(is_table(table), decode(table).collect(p), out, answer)
 }
 
 // The processes that can move.
 #[no_mangle]
 pub extern "C" fn rendezvous_runnable(table: &[u8], out: &mut [u8], answer: &mut [u8]) -> bool
-    ensures { λ r. ⌜ Gives (runnable (tableOf (now (table .entry)))) (now (out .entry)) (now (answer .entry)) (now (out .exit)) (now (answer .exit)) r ⌝ }
+    ensures { λ r. ⌜ Gives (isTable (now (table .entry))) (runnable (tableOf (now (table .entry)))) (now (out .entry)) (now (answer .entry)) (now (out .exit)) (now (answer .exit)) r ⌝ }
 {
-    give(decode(table).runnable(), out, answer)
+    give(is_table(table), decode(table).runnable(), out, answer)
 }
 
 // A session of the script program before its first byte.
 #[no_mangle]
 pub extern "C" fn rendezvous_script_start(state: &mut [u8]) -> bool
-    ensures { λ r. ⌜ Keeps start (now (state .entry)) (now (state .exit)) r ⌝ }
+    ensures { λ r. ⌜ Keeps true start (now (state .entry)) (now (state .exit)) r ⌝ }
 {
     put_session(script::start(), state)
 }
 
 // Feeds a piece of the input: as many of its bytes as `out` has room for, 64 bytes each. `taken` and `filled` are set to how many were taken
-// and how many bytes their lines print to the front of `out`.
+// and how many bytes their lines print to the front of `out`: none and none if a session is too short.
 #[no_mangle]
 pub extern "C" fn rendezvous_script_feed(
     state: &[u8],
@@ -90,8 +99,14 @@ pub extern "C" fn rendezvous_script_feed(
     taken: &mut usize,
     filled: &mut usize,
 ) -> bool
-    ensures { λ r. ⌜ Feeds (stateIn (now (state .entry))) (now (piece .entry)) (now (after .entry)) (now (out .entry)) (now (after .exit)) (now (out .exit)) (now (taken .exit)) (now (filled .exit)) r ⌝ }
+    ensures { λ r. ⌜ Feeds (now (state .entry)) (now (piece .entry)) (now (after .entry)) (now (out .entry)) (now (after .exit)) (now (out .exit)) (now (taken .exit)) (now (filled .exit)) r ⌝ }
 {
+    let whole = (SESSION_BYTES <= state.len()) & (SESSION_BYTES <= after.len());
+    if !whole {
+        *taken = 0;
+        *filled = 0;
+        return false;
+    }
     let session = session_in(state);
     let fed = script::feed(session, piece, out);
     *taken = fed.taken;
@@ -100,11 +115,15 @@ pub extern "C" fn rendezvous_script_feed(
     put_session(next, after)
 }
 
-// What the end of the input prints, to the front of `out`, and how many bytes that is; nothing if `out` has less than 64 bytes.
+// What the end of the input prints, to the front of `out`, and how many bytes that is; nothing if `out` has less than 64 bytes, or if the
+// session is too short.
 #[no_mangle]
 pub extern "C" fn rendezvous_script_finish(state: &[u8], out: &mut [u8]) -> usize
-    ensures { λ r. ⌜ Finishes (stateIn (now (state .entry))) (now (out .entry)) (now (out .exit)) r ⌝ }
+    ensures { λ r. ⌜ Finishes (now (state .entry)) (now (out .entry)) (now (out .exit)) r ⌝ }
 {
+    if state.len() < SESSION_BYTES {
+        return 0;
+    }
     let session = session_in(state);
     put_text(script::finish(session), out)
 }
@@ -114,7 +133,7 @@ pub fn script_by_calls()
     ensures { λ _. ⌜ ByCalls ⌝ }
 {}
 
-// x, by way of a reading in a guard in a record in a table: for a test that its bits stay, a NaN's too.
+// x, by way of a reading that a table holds in a refused offer, in steps and in a collection: for a test that its bits stay, a NaN's too.
 #[no_mangle]
 pub extern "C" fn rendezvous_reading_through(x: f32) -> f32
     ensures { λ r. ⌜ r ≡ x ⌝ }

@@ -10,7 +10,7 @@ use wire::flag_byte;
 use wire::from;
 use wire::put_bytes;
 ghost use mathlib.Core.Path.{_≡_};
-ghost use mathlib.Core.Bool.{cond};
+ghost use mathlib.Core.Bool.{true, cond};
 ghost use mathlib.Core.List.{_++_};
 ghost use lib.Dec.{leb};
 ghost use lib.ListN.{length, take, drop};
@@ -19,9 +19,9 @@ ghost use Rattle.script.specs.Feeding.{stateOf};
 ghost use Rattle.exports.specs.Scripts.{stateIn, Keeps};
 
 // How long the byte form of a session is.
-const SESSION_BYTES: usize = 7312;
+pub const SESSION_BYTES: usize = 7312;
 
-// The session that bytes are read as: any bytes are one.
+// The session that bytes are read as.
 pub fn session_in(state: &[u8]) -> Session
     ensures { λ r. ⌜ stateOf r ≡ stateIn (now (state .entry)) ⌝ }
 {
@@ -38,7 +38,7 @@ pub fn session_in(state: &[u8]) -> Session
 
 // Writes the byte form of a session to the front of `out`, or nothing if `out` is too short, and says whether it wrote.
 pub fn put_session(session: Session, out: &mut [u8]) -> bool
-    ensures { λ r. ⌜ Keeps (stateOf session) (now (out .entry)) (now (out .exit)) r ⌝ }
+    ensures { λ r. ⌜ Keeps true (stateOf session) (now (out .entry)) (now (out .exit)) r ⌝ }
 {
     let table = session.table;
     // `encode` writes to the front of a buffer, so the table's form is laid out apart

@@ -1,5 +1,5 @@
 -- Demand 3, from any good table and a book kept with it, and so from any fresh table.
-use Prim.Native.Nat.{ℕ}
+use Prim.Native.Nat.{ℕ, _≤_}
 use mathlib.Core.Path.{_≡_, refl, sym, _∙_, subst, subst⁻¹}
 use mathlib.Core.Bool.{Bool, true, false, _&&_, cond}
 use mathlib.Core.List.{List, [], _∷_, _++_, append-nil, append-assoc, append-cancel-left}
@@ -10,7 +10,7 @@ use borrow.Author.Tests.{ltb-false}
 use Rattle.process.specs.declared.Place.{Place}
 use Rattle.rendezvous.specs.declared.ProcessTable.{ProcessTable}
 use Rattle.process.specs.Process.{openAt, isOpen, isIdle}
-use Rattle.rendezvous.specs.Table.{process, freshTable}
+use Rattle.rendezvous.specs.Table.{mostProcesses, process, freshTable}
 use Rattle.rendezvous.specs.Numbers.{Said}
 use Rattle.rendezvous.proofs.Changes.{rest-still}
 use Rattle.history.specs.Run.{Call, replyTo, saidTo, tableAfter, tableAfterAll}
@@ -86,9 +86,12 @@ fresh-kept n = record {
   awaited = λ p. fresh-each (λ x. Bound x → Held (process (freshTable n)) p) (λ b. absurd (b .shows)) (λ b. absurd (b .shows)) n p;
 }
 
+-- (The bounds go by arithmetic, so that this would prove a claim for fewer sizes too. That one is refused where demand 3 is used at its ends.)
 pub demand3 : Demand3
 demand3 n least most calls =
-    let c = claim-from (freshTable n) emptyHistory (good-fresh n least most) (fresh-kept n) calls in
+    let bottom : 2 ≤ n = omega arith in
+    let top : n ≤ mostProcesses = omega arith in
+    let c = claim-from (freshTable n) emptyHistory (good-fresh n bottom top) (fresh-kept n) calls in
     record {
       book = c .book;
       never-stuck = c .never-stuck;
@@ -98,5 +101,5 @@ demand3 n least most calls =
       tickets = c .tickets;
       collections = c .collections;
       opens = λ p. open-offer _ (c .good) p ∙ c .kept .each p .offer;
-      rests = λ rest. at-rest _ (c .good) (rest-still _ (stays-well-formed n least most calls) rest);
+      rests = λ rest. at-rest _ (c .good) (rest-still _ (stays-well-formed n bottom top calls) rest);
     }

@@ -6,6 +6,7 @@ pub mod EveryCall
 pub mod Facts
 pub mod Followed
 pub mod Formed
+pub mod Further
 pub mod GoodTable
 pub mod Invariant
 pub mod Keeps

@@ -5,7 +5,7 @@ use Rattle.process.specs.Process.{freshProcess}
 use Rattle.rendezvous.specs.Table.{mostProcesses, freshTable}
 use Rattle.rendezvous.specs.Calls.{create, runnable}
 use Rattle.rendezvous.specs.Numbers.{Said, made, ticket, place, same, outcome, movers, refusal, said}
-use Rattle.history.specs.Types.{ℕ, Char, code, _≡_, true, false, List, [], _∷_, Option, some, none, replicate, Message, Nothing, Reading, Receive, Send, Guard, ProcessTable, Reply}
+use Rattle.history.specs.Types.{ℕ, Char, code, _≡_, true, false, List, [], _∷_, _++_, Option, some, none, replicate, Message, Nothing, Reading, Receive, Send, Guard, ProcessTable, Reply}
 use Rattle.history.specs.Run.{Call, Offer, Step, Collect, replyTo}
 
 -- a new table, one of the calls of demand 3, or movers
@@ -30,24 +30,27 @@ pub record Case : Type 0 where
   pub commands : List Command
   pub says : List Said
 
-abbrev offers : ℕ → List Guard → Command
+abbrev pub offers : ℕ → List Guard → Command
 offers p gs = Do (Offer p gs)
 
-abbrev steps : ℕ → Command
+abbrev pub steps : ℕ → Command
 steps p = Do (Step p)
 
-abbrev collects : ℕ → Command
+abbrev pub collects : ℕ → Command
 collects p = Do (Collect p)
 
--- guards as the script writes them: q?, q! with the bits of a reading, and -q?
+-- guards as the script writes them: q?, q! with a message or the bits of a reading, and -q?
 abbrev pub receive : ℕ → Guard
 receive q = record { enabled = true; partner = q; action = Receive }
 
 abbrev pub reading : ℕ → Message
 reading bits = Reading (ofBits binary32 bits)
 
+abbrev pub sends : ℕ → Message → Guard
+sends q m = record { enabled = true; partner = q; action = Send m }
+
 abbrev pub send : ℕ → ℕ → Guard
-send q bits = record { enabled = true; partner = q; action = Send (reading bits) }
+send q bits = sends q (reading bits)
 
 abbrev pub disabled : ℕ → Guard
 disabled q = record { enabled = false; partner = q; action = Receive }
@@ -57,25 +60,28 @@ abbrev withNext : ℕ → ProcessTable
 withNext next = record { n = 2; next = record { 0 = next }; processes = replicate mostProcesses freshProcess }
 
 -- a place by its letter, with the guard index at A, T and C
-abbrev at : Char → Option ℕ → Said
+abbrev pub at : Char → Option ℕ → Said
 at letter index = place (code letter) index
 
--- process 0 offers a reading to process 1, which takes it: both collect
-abbrev session : ℕ → List Command
-session bits =
-    New 2 ∷ offers 0 (send 1 bits ∷ []) ∷ offers 1 (receive 0 ∷ [])
-    ∷ steps 0 ∷ steps 0 ∷ steps 0 ∷ steps 0 ∷ steps 0
-    ∷ steps 1 ∷ steps 1 ∷ steps 1 ∷ steps 1 ∷ steps 0
-    ∷ collects 1 ∷ collects 0 ∷ Movers ∷ []
+-- process 0 offers a message to process 1, which takes it: both collect
+abbrev pub sessionCalls : Message → List Call
+sessionCalls m =
+    Offer 0 (sends 1 m ∷ []) ∷ Offer 1 (receive 0 ∷ [])
+    ∷ Step 0 ∷ Step 0 ∷ Step 0 ∷ Step 0 ∷ Step 0
+    ∷ Step 1 ∷ Step 1 ∷ Step 1 ∷ Step 1 ∷ Step 0
+    ∷ Collect 1 ∷ Collect 0 ∷ []
 
-abbrev sessionSays : ℕ → List Said
-sessionSays bits =
+abbrev pub session : Message → List Command
+session m = New 2 ∷ (map Do (sessionCalls m) ++ (Movers ∷ []))
+
+abbrev pub sessionSays : Message → List Said
+sessionSays m =
     made ∷ ticket 0 ∷ ticket 1
     ∷ at "A" (some 0) ∷ at "P" none ∷ at "O" none ∷ at "H" none ∷ at "W" none
     ∷ at "A" (some 0) ∷ at "T" (some 0) ∷ at "C" (some 0) ∷ at "M" none ∷ at "M" none
-    ∷ outcome 0 0 (reading bits) ∷ outcome 0 1 Nothing ∷ movers 0 ∷ []
+    ∷ outcome 0 0 m ∷ outcome 0 1 Nothing ∷ movers 0 ∷ []
 
-abbrev case : List Command → List Said → Case
+abbrev pub case : List Command → List Said → Case
 case commands says = record { start = freshTable 0; commands = commands; says = says }
 
 unfoldable pub starred : List Case
@@ -93,7 +99,7 @@ starred =
     ∷ case (New 2 ∷ offers 0 (receive 1 ∷ []) ∷ offers 0 (receive 0 ∷ []) ∷ []) (made ∷ ticket 0 ∷ refusal 4 ∷ [])
     -- r7fc00000 gives 5; r80000000 arrives as r80000000
     ∷ case (New 2 ∷ offers 0 (send 1 0x7fc00000 ∷ []) ∷ []) (made ∷ refusal 5 ∷ [])
-    ∷ case (session 0x80000000) (sessionSays 0x80000000)
+    ∷ case (session (reading 0x80000000)) (sessionSays (reading 0x80000000))
     -- only disabled guards: 6; a second offer while open: 11
     ∷ case (New 2 ∷ offers 0 (disabled 1 ∷ disabled 1 ∷ []) ∷ []) (made ∷ refusal 6 ∷ [])
     ∷ case (New 2 ∷ offers 0 (receive 1 ∷ []) ∷ offers 0 (receive 1 ∷ []) ∷ []) (made ∷ ticket 0 ∷ refusal 11 ∷ [])
@@ -105,9 +111,12 @@ starred =
     (New 2 ∷ offers 0 (send 1 0x40970a3d ∷ []) ∷ offers 1 (receive 0 ∷ []) ∷ steps 0 ∷ steps 1 ∷ steps 0 ∷ steps 1 ∷ steps 0 ∷ [])
     (made ∷ ticket 0 ∷ ticket 1 ∷ at "A" (some 0) ∷ at "A" (some 0) ∷ same ∷ at "S" none ∷ at "P" none ∷ [])
     -- the session, whose reading is 4.72
-    ∷ case (session 0x40970a3d) (sessionSays 0x40970a3d)
+    ∷ case (session (reading 0x40970a3d)) (sessionSays (reading 0x40970a3d))
     ∷ []
 
--- In every starred case the definitions say what document 01 says.
+-- In every case of a list the definitions say what document 01 says.
+abbrev pub Hold : List Case → Type 0
+Hold cases = map (λ c. allSaid (c .start) (c .commands)) cases ≡ map (λ c. c .says) cases
+
 abbrev pub Starred : Type 0
-Starred = map (λ c. allSaid (c .start) (c .commands)) starred ≡ map (λ c. c .says) starred
+Starred = Hold starred

@@ -5,3 +5,4 @@ pub mod Demand3
 pub mod StaysWellFormed
 pub mod NothingLost
 pub mod Cases
+pub mod Further

@@ -3,10 +3,16 @@ ghost use Rattle.history.specs.Demand3.{Demand3};
 ghost use Rattle.history.specs.StaysWellFormed.{StaysWellFormed};
 ghost use Rattle.history.specs.NothingLost.{NothingLost};
 ghost use Rattle.history.specs.Cases.{Starred};
+ghost use Rattle.history.specs.Further.{Further, Demand3AtEnds};
 
 // Carries demand 3, so that the verdict has a line for it: the claim about every list of calls from any fresh table.
 pub fn demand3()
     ensures { λ _. ⌜ Demand3 ⌝ }
+{}
+
+// Carries demand 3 for tables of 2 and of 32 processes: a claim for fewer sizes would not give it.
+pub fn demand3_at_ends()
+    ensures { λ _. ⌜ Demand3AtEnds ⌝ }
 {}
 
 // Carries the claim that no list of calls damages a table, so that none of them is refused by 7.
@@ -22,4 +28,9 @@ pub fn nothing_lost()
 // Carries the starred cases of document 01: in each of them the definitions say what the document says.
 pub fn starred_cases()
     ensures { λ _. ⌜ Starred ⌝ }
+{}
+
+// Carries the cases beside the starred ones.
+pub fn further_cases()
+    ensures { λ _. ⌜ Further ⌝ }
 {}

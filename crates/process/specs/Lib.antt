@@ -1,5 +1,6 @@
 pub mod Types
 pub mod Process
+pub mod Places
 pub mod Rules
 pub mod Fits
 pub mod Form

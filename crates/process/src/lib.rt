@@ -1,6 +1,7 @@
 // One process's record, and what is told and done on one or two records: the fifteen rules, and whether a record fits into a table.
 use alternative::Guard;
 use alternative::Message;
+ghost use Rattle.process.specs.Places.{PlaceTable};
 
 mod fits;
 mod moving;
@@ -71,3 +72,9 @@ pub struct Change {
     pub accepting: bool,
     pub signal: Signal,
 }
+
+// Carries document 01's table of places, so that the verdict has a line for it: the letter and the word of each, and where an offer is
+// open.
+pub fn place_table()
+    ensures { λ _. ⌜ PlaceTable ⌝ }
+{}

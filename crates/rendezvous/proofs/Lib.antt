@@ -3,7 +3,6 @@ pub mod Done
 pub mod Forms
 pub mod Lengths
 pub mod Movers
-pub mod Offers
 pub mod Sets
 pub mod Steps
 pub mod Verdicts

@@ -22,7 +22,7 @@ use Rattle.rendezvous.specs.WellFormed.{wellFormed}
 use Rattle.alternative.proofs.Tests.{and-parts}
 use Rattle.process.specs.Process.{isIdle}
 use Rattle.process.specs.Fits.{allGuards, partnerFits}
-use Rattle.rendezvous.specs.Refusals.{require, requireGuards, processVerdict, listVerdict, stateVerdict, offerVerdict}
+use Rattle.rendezvous.specs.Refusals.{require, requireGuards, processVerdict, listVerdict, stateVerdict, offerTests, offerVerdict}
 
 never : (r : Refusal) → Accepted ≡ Refused r → ⊥
 never r e = let z : _≡_ {A = ℕ} 0 1 = cc in omega arith
@@ -64,7 +64,7 @@ pub record Passed (form : Bool) (n p : ℕ) (list : GuardList) (place : Place) (
   pub left : next .0 < lastTransaction
 
 pub tests-passed : (formed : Bool) (n p : ℕ) (list : GuardList) (place : Place) (next : TransactionId) (verdict : Verdict)
-    → verdict ≡ require formed NotWellFormed (require (ltb p n) NoSuchProcess (listVerdict n p list (stateVerdict place next))) → verdict ≡ Accepted → Passed formed n p list place next
+    → verdict ≡ offerTests formed n p list place next → verdict ≡ Accepted → Passed formed n p list place next
 unfolding listVerdict stateVerdict
 tests-passed formed n p list place next verdict asked e =
     let a = passed formed NotWellFormed _ (sym asked ∙ e) in

@@ -14,7 +14,7 @@ abbrev pub ifAccepted : Verdict → ProcessTable → Reply → Reply
 ifAccepted Accepted t reply = reply
 ifAccepted (Verdict.Refused refusal) t reply = refused refusal t
 
--- New. Where it is refused "no desk is made": beside the refusal stands the table of no process, on which every call is refused by 7.
+-- New. Where it is refused, "No desk is made.": beside the refusal stands the table of no process, on which every call is refused by 7.
 unfoldable pub create : ℕ → Reply
 create n = ifAccepted (createVerdict n) (freshTable 0) (record { answer = Made; table = freshTable n })
 

@@ -20,9 +20,13 @@ createVerdict n = require (countFits n) ProcessCount Accepted
 unfoldable pub tableVerdict : ProcessTable → Verdict
 tableVerdict t = require (wellFormed t) NotWellFormed Accepted
 
+-- any call of process p, by whether its table of n is well-formed: 7, 2, and then the rest
+abbrev pub processTests : Bool → ℕ → ℕ → Verdict → Verdict
+processTests formed n p rest = require formed NotWellFormed (require (ltb p n) NoSuchProcess rest)
+
 -- a step or a collection by process p: 7, 2
 unfoldable pub processVerdict : ProcessTable → ℕ → Verdict
-processVerdict t p = require (wellFormed t) NotWellFormed (require (ltb p (t .n)) NoSuchProcess Accepted)
+processVerdict t p = processTests (wellFormed t) (t .n) p Accepted
 
 -- an offer: "4, then 5, guard by guard" ..
 unfoldable pub requireGuards : ℕ → ℕ → List Guard → Verdict → Verdict
@@ -45,9 +49,8 @@ unfoldable pub stateVerdict : Place → TransactionId → Verdict
 stateVerdict place next = require (isIdle place) NotIdle (require (ltb (next .0) lastTransaction) LastTransaction Accepted)
 
 -- the whole: 7, 2, 3, 4 and 5, 6, 11, 12
+abbrev pub offerTests : Bool → ℕ → ℕ → GuardList → Place → TransactionId → Verdict
+offerTests formed n p list place next = processTests formed n p (listVerdict n p list (stateVerdict place next))
+
 unfoldable pub offerVerdict : ProcessTable → ℕ → GuardList → Verdict
-offerVerdict t p list =
-    require (wellFormed t) NotWellFormed
-    (require (ltb p (t .n)) NoSuchProcess
-    (listVerdict (t .n) p list
-    (stateVerdict (process t p .place) (t .next))))
+offerVerdict t p list = offerTests (wellFormed t) (t .n) p list (process t p .place) (t .next)

@@ -1,28 +1,25 @@
-// What each call of one process does, from what it reads of the table. The calls carry it out on their table, and so does who keeps a
-// table in its place: a call by value copies it.
+// What each call of one process does, from what it reads of the table: whether that is well-formed, its number of processes n, its next
+// ticket, the record x of process p, and for a step the record y of the partner q. The calls carry it out on their table, and so does
+// who keeps a table in its place: a call by value copies it.
 use crate::Act;
 use crate::Answer;
 use crate::Refusal;
 use crate::Verdict;
-use crate::offer::entered;
-use crate::offer::offer_verdict;
-use crate::step::moved_answer;
-use crate::well_formed::process_verdict;
+use crate::refusals::offer_verdict;
+use crate::refusals::process_verdict;
 use alternative::GuardList;
+use alternative::blanked;
 use process::Place;
 use process::Process;
 use process::Signal;
 use process::TransactionId;
 use process::guard_at;
 use process::rule;
-ghost use Prim.Native.Nat.{ℕ, _%_};
+ghost use Prim.Native.Nat.{_≤_};
 ghost use mathlib.Core.Path.{_≡_};
-ghost use mathlib.Core.Bool.{false};
-ghost use Rattle.process.specs.Rules.{partnerOf};
-ghost use Rattle.rendezvous.specs.Types.{ProcessTable};
-ghost use Rattle.rendezvous.specs.Table.{process};
-ghost use Rattle.rendezvous.specs.Calls.{offerList, step, collect};
-ghost use Rattle.rendezvous.specs.Acts.{alone, Reads, done};
+ghost use mathlib.Core.Bool.{cond};
+ghost use Rattle.rendezvous.specs.Calls.{entering};
+ghost use Rattle.rendezvous.specs.Acts.{alone, offerAct, stepAct, collectAct};
 
 // The partner is told nothing.
 pub fn alone(answer: Answer, next: TransactionId, own: Process) -> Act
@@ -38,6 +35,27 @@ pub fn alone(answer: Answer, next: TransactionId, own: Process) -> Act
     }
 }
 
+// The record of a process whose offer is accepted.
+fn entered(x: Process, ticket: TransactionId, list: GuardList) -> Process
+    requires { ⌜ list .count ≤ 8 ⌝ }
+    ensures { λ r. ⌜ r ≡ entering x ticket list ⌝ }
+{
+    let count = list.count;
+    let given = list.guards;
+    let signal = x.signal;
+    let altlist = x.altlist;
+    Process {
+        place: Place::Entering,
+        signal: signal,
+        transaction: ticket,
+        accepting: x.accepting,
+        count: count as u8,
+        altcount: x.altcount,
+        guards: blanked(given, count),
+        altlist: altlist,
+    }
+}
+
 pub fn offer_act(
     formed: bool,
     n: u8,
@@ -46,16 +64,27 @@ pub fn offer_act(
     x: Process,
     list: GuardList,
 ) -> Act
-    ensures told { λ r. ⌜ r .told ≡ false ⌝ }
-    ensures does { λ r. ⌜ ((t : ProcessTable) (j : ℕ) → Reads t p formed n next x → done t (p % 32) j r ≡ offerList t p list) ⌝ }
+    ensures { λ r. ⌜ r ≡ offerAct formed n next p x list ⌝ }
 {
     let place = x.place;
     match offer_verdict(formed, n, p, list, place, next) {
         Verdict::Refused(refusal) => alone(Answer::Refused(refusal), next, x),
         Verdict::Accepted => {
-            let following = TransactionId(next.0 + 1);
+            let number = next.0 + 1;
+            let following = TransactionId(number);
             alone(Answer::Offered(next), following, entered(x, next, list))
         }
+    }
+}
+
+// What a step says: the new place, or that nothing changed.
+fn moved_answer(moved: bool, place: Place) -> Answer
+    ensures { λ r. ⌜ r ≡ cond moved (Answer.Moved place) Answer.Unchanged ⌝ }
+{
+    if moved {
+        Answer::Moved(place)
+    } else {
+        Answer::Unchanged
     }
 }
 
@@ -68,7 +97,7 @@ pub fn step_act(
     q: u8,
     y: Process,
 ) -> Act
-    ensures { λ r. ⌜ ((t : ProcessTable) → Reads t p formed n next x → q ≡ partnerOf x → y ≡ process t (q % 32) → done t (p % 32) (q % 32) r ≡ step t p) ⌝ }
+    ensures { λ r. ⌜ r ≡ stepAct formed n next p x q y ⌝ }
 {
     match process_verdict(formed, n, p) {
         Verdict::Refused(refusal) => alone(Answer::Refused(refusal), next, x),
@@ -90,8 +119,7 @@ pub fn step_act(
 }
 
 pub fn collect_act(formed: bool, n: u8, next: TransactionId, p: u8, x: Process) -> Act
-    ensures told { λ r. ⌜ r .told ≡ false ⌝ }
-    ensures does { λ r. ⌜ ((t : ProcessTable) (j : ℕ) → Reads t p formed n next x → done t (p % 32) j r ≡ collect t p) ⌝ }
+    ensures { λ r. ⌜ r ≡ collectAct formed n next p x ⌝ }
 {
     let place = x.place;
     match process_verdict(formed, n, p) {

@@ -4,6 +4,7 @@ use process::Place;
 use process::Process;
 use process::Signal;
 use process::TransactionId;
+ghost use Rattle.rendezvous.specs.Acts.{ActsAreCalls};
 ghost use Rattle.rendezvous.specs.Movers.{MoversChange};
 
 mod acts;
@@ -12,6 +13,7 @@ mod create;
 mod lending;
 mod numbers;
 mod offer;
+mod refusals;
 mod runnable;
 mod step;
 mod well_formed;
@@ -86,4 +88,9 @@ pub struct Reply {
 // Carries the claim that the set of `runnable` tells which steps change the table, so that the verdict has a line for it.
 pub fn movers_change()
     ensures { λ _. ⌜ MoversChange ⌝ }
+{}
+
+// Carries the claim that an act, carried out on the table that was read, is the call.
+pub fn acts_are_calls()
+    ensures { λ _. ⌜ ActsAreCalls ⌝ }
 {}

@@ -1,26 +1,12 @@
 // The call that moves one process by one rule.
-use crate::Answer;
 use crate::ProcessTable;
 use crate::Reply;
 use crate::acts::step_act;
 use crate::well_formed::count_fits;
-use process::Place;
 use process::posted_by;
 use process::process_fits;
 ghost use mathlib.Core.Path.{_≡_};
-ghost use mathlib.Core.Bool.{cond};
 ghost use Rattle.rendezvous.specs.Calls.{step};
-
-// What a step says: the new place, or that nothing changed.
-pub fn moved_answer(moved: bool, place: Place) -> Answer
-    ensures { λ r. ⌜ r ≡ cond moved (Answer.Moved place) Answer.Unchanged ⌝ }
-{
-    if moved {
-        Answer::Moved(place)
-    } else {
-        Answer::Unchanged
-    }
-}
 
 impl ProcessTable {
     // Moves process p by one rule, and says its new place or that nothing changed.

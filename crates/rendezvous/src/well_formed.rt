@@ -1,14 +1,10 @@
-// Refusal 7: whether a table is well-formed, whatever it holds; and 2.
+// Refusal 7: whether a table is well-formed, whatever it holds.
 use crate::MOST_PROCESSES;
 use crate::ProcessTable;
-use crate::Refusal;
-use crate::Verdict;
 use process::posted_by;
 use process::process_fits;
 ghost use mathlib.Core.Path.{_≡_};
-ghost use lib.Dec.{ltb};
 ghost use Rattle.rendezvous.specs.WellFormed.{countFits, wellFormed};
-ghost use Rattle.rendezvous.specs.Refusals.{require};
 
 pub fn count_fits(n: u8) -> bool
     ensures { λ r. ⌜ r ≡ countFits n ⌝ }
@@ -35,19 +31,5 @@ impl ProcessTable {
             k = k + 1;
         }
         formed
-    }
-}
-
-// 7, then 2: `formed` says whether the table of n is well-formed.
-pub fn process_verdict(formed: bool, n: u8, p: u8) -> Verdict
-    ensures { λ r. ⌜ r ≡ require formed Refusal.NotWellFormed (require (ltb p n) Refusal.NoSuchProcess Verdict.Accepted) ⌝ }
-{
-    if !formed {
-        return Verdict::Refused(Refusal::NotWellFormed);
-    }
-    if p < n {
-        Verdict::Accepted
-    } else {
-        Verdict::Refused(Refusal::NoSuchProcess)
     }
 }

@@ -1,5 +1,5 @@
 -- Laws of one line's turn: the command in the form of the code, and the table that a refused call hands back.
-use Prim.Native.Nat.{ℕ, _≤_, _<_}
+use Prim.Native.Nat.{ℕ, _%_, _≤_, _<_}
 use Prim.Native.Char.{code}
 use mathlib.Core.Path.{_≡_, refl, sym, ap, _∙_}
 use mathlib.Core.Bool.{Bool, true, false, cond, false≢true}
@@ -13,20 +13,23 @@ use Rattle.command.specs.declared.Parsed.{Parsed}
 use Rattle.command.specs.Form.{asParsed}
 use Rattle.process.specs.Rules.{Effect, Neither, Own, Both, partnerOf}
 use Rattle.rendezvous.specs.Types.{Process, Place, Idle, Entering, Scanning, Trying, Committed, Posting, Opening, Showing, Asleep, Waiting, Met}
+use Rattle.rendezvous.specs.declared.Act.{Act}
 use Rattle.rendezvous.specs.declared.Verdict.{Verdict}
 use Rattle.rendezvous.specs.declared.Verdict.the-variants.{Accepted}
 use Rattle.rendezvous.specs.Table.{process, freshTable}
 use Rattle.rendezvous.specs.declared.Refusal.the-variants.{ProcessCount}
-use Rattle.rendezvous.specs.WellFormed.{countFits}
+use Rattle.rendezvous.specs.WellFormed.{countFits, wellFormed}
 use Rattle.rendezvous.specs.Refusals.{createVerdict, offerVerdict, processVerdict, tableVerdict}
 use Rattle.rendezvous.specs.Numbers.{said}
 use Rattle.rendezvous.specs.Calls.{ifAccepted, create, offered, offerList, effectOn, applied, stepped, step, collected, collect, runnable, runnableSet}
+use Rattle.rendezvous.specs.Acts.{done}
 use Rattle.script.specs.Types.{GuardList, ProcessTable, Answer, Made, Unchanged, Runnable, Reply, Command, New, Offer, Step, Collect, Movers}
 use Rattle.script.specs.Printing.{field, commandText, answerText, ended}
 use Rattle.script.specs.Lines.{Ended, lineCommand}
 use Rattle.script.specs.Session.{replyTo, isRefused, Turn, malformed, answered, turnBy, turn}
 use Rattle.script.specs.Feeding.{tableOf}
-use Rattle.script.specs.Private.{readyKind, madeAfter, newReply, calledBy, lineText}
+use Rattle.script.specs.Private.{readyKind, madeAfter, newReply, lineAct, lineText}
+use Rattle.rendezvous.proofs.Done.{kept, offer-done, step-done, collect-done}
 use Rattle.rendezvous.proofs.Forms.{count-most}
 use Rattle.rendezvous.proofs.Verdicts.{passed}
 use Rattle.script.proofs.Texts.{answer-length, number-length, refusal-length}
@@ -146,6 +149,26 @@ new-turn made t command n = go made (isRefused (create n .answer)) refl
     go true false b = rw b
     go false true b = rw (b, b)
     go false false b = rw (b, b)
+
+-- the reply to a call of one process; a command of another kind changes nothing
+abbrev pub calledBy : ProcessTable → Kind → ℕ → GuardList → Reply
+calledBy t Kind.Offer n list = offerList t n list
+calledBy t Kind.Step n list = step t n
+calledBy t Kind.Collect n list = collect t n
+calledBy t Kind.Malformed n list = record { answer = Unchanged; table = t }
+calledBy t Kind.New n list = record { answer = Unchanged; table = t }
+calledBy t Kind.Movers n list = record { answer = Unchanged; table = t }
+
+-- .. is what a line's act does, carried out where it was read
+pub line-done : (t : ProcessTable) (k : Kind) (p : ℕ) (list : GuardList) (formed : Bool) (q : ℕ) (act : Act) → formed ≡ wellFormed t → q ≡ partnerOf (process t (p % 32))
+    → act ≡ lineAct k p list formed (t .n) (t .next) (process t (p % 32)) q (process t (q % 32)) → done t (p % 32) (q % 32) act ≡ calledBy t k p list
+unfolding lineAct
+line-done t Kind.Offer p list formed q act form named e = offer-done t p formed form act list (q % 32) e
+line-done t Kind.Step p list formed q act form named e = step-done t p formed form act q named e
+line-done t Kind.Collect p list formed q act form named e = collect-done t p formed form act (q % 32) e
+line-done t Kind.Malformed p list formed q act form named e = rw e (kept t (p % 32) (q % 32) Unchanged)
+line-done t Kind.New p list formed q act form named e = rw e (kept t (p % 32) (q % 32) Unchanged)
+line-done t Kind.Movers p list formed q act form named e = rw e (kept t (p % 32) (q % 32) Unchanged)
 
 -- the reply with which the code goes on; a malformed line has no answer
 abbrev pub replyAfter : ProcessTable → Kind → ℕ → GuardList → Reply

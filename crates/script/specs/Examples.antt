@@ -1,4 +1,4 @@
--- To be believed. Document 01, "The script program": the marked session, byte for byte; and what gives 8.
+-- To be believed. Document 01, "The script program": the marked session, byte for byte; limits and whole numbers; and what gives 8.
 use Prim.Native.Nat.{ℕ}
 use mathlib.Core.Path.{_≡_}
 use mathlib.Core.List.{List, _++_, flatten}
@@ -11,6 +11,18 @@ abbrev pub MarkedSession : Type 0
 MarkedSession =
     output (bytes "n 2\no 0 1!r40970a3d\no 1 0?\ns 0\ns 0\ns 0\ns 0\ns 0\ns 1\ns 1\ns 1\ns 1\ns 0\nc 1\nc 0\nm\n")
     ≡ bytes "n 2\no 0 t0\no 1 t1\ns 0 A0\ns 0 P\ns 0 O\ns 0 H\ns 0 W\ns 1 A0\ns 1 T0\ns 1 C0\ns 1 M\ns 0 M\nc 1 0 0 r40970a3d\nc 0 0 1 0\nm 00000000\n"
+
+-- A limit, low half before high, and the least whole number arrive as they were written; "a `c` line the party, guard index, partner, and the message as a guard writes it".
+abbrev steps : List ℕ
+steps = bytes "s 0\ns 0\ns 0\ns 0\ns 0\ns 1\ns 1\ns 1\ns 1\ns 0\n"
+
+abbrev stepLines : List ℕ
+stepLines = bytes "s 0 A0\ns 0 P\ns 0 O\ns 0 H\ns 0 W\ns 1 A0\ns 1 T0\ns 1 C0\ns 1 M\ns 0 M\n"
+
+abbrev pub CarriedMessages : Type 0
+CarriedMessages =
+    output (bytes "n 2\no 0 1!l40970a3d80000000\no 1 0?\n" ++ steps ++ bytes "c 1\nc 0\no 0 1!w-2147483648\no 1 0?\n" ++ steps ++ bytes "c 1\nc 0\n")
+    ≡ bytes "n 2\no 0 t0\no 1 t1\n" ++ stepLines ++ bytes "c 1 0 0 l40970a3d80000000\nc 0 0 1 0\no 0 t2\no 1 t3\n" ++ stepLines ++ bytes "c 1 0 0 w-2147483648\nc 0 0 1 0\n"
 
 -- an offer of k guards, in 3 + 3 k bytes
 unfoldable pub offerLine : ℕ → List ℕ

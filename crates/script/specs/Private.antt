@@ -8,7 +8,10 @@ use lib.Dec.{leb}
 use Rattle.text.specs.Writing.{decimalText}
 use Rattle.command.specs.declared.Kind.{Kind}
 use Rattle.command.specs.declared.Kind.the-variants.{Malformed}
-use Rattle.rendezvous.specs.Calls.{create, offerList, step, collect}
+use Rattle.rendezvous.specs.declared.Act.{Act}
+use Rattle.rendezvous.specs.Types.{TransactionId, Process}
+use Rattle.rendezvous.specs.Calls.{create}
+use Rattle.rendezvous.specs.Acts.{alone, offerAct, stepAct, collectAct}
 use Rattle.rendezvous.specs.Numbers.{said}
 use Rattle.script.specs.Types.{GuardList, ProcessTable, Answer, Unchanged, Reply}
 use Rattle.script.specs.Printing.{field, refusalText, answerText, ended}
@@ -37,14 +40,14 @@ madeAfter made Kind.Movers answer = made
 unfoldable pub newReply : ProcessTable → ℕ → Reply
 newReply t n = cond (isRefused (create n .answer)) (record { answer = create n .answer; table = t }) (create n)
 
--- the reply to a call of one process; a command of another kind changes nothing
-abbrev pub calledBy : ProcessTable → Kind → ℕ → GuardList → Reply
-calledBy t Kind.Offer n list = offerList t n list
-calledBy t Kind.Step n list = step t n
-calledBy t Kind.Collect n list = collect t n
-calledBy t Malformed n list = record { answer = Unchanged; table = t }
-calledBy t Kind.New n list = record { answer = Unchanged; table = t }
-calledBy t Kind.Movers n list = record { answer = Unchanged; table = t }
+-- the act of a call of one process, from what was read; a command of another kind does nothing
+unfoldable pub lineAct : Kind → ℕ → GuardList → Bool → ℕ → TransactionId → Process → ℕ → Process → Act
+lineAct Kind.Offer p list formed n next x q y = offerAct formed n next p x list
+lineAct Kind.Step p list formed n next x q y = stepAct formed n next p x q y
+lineAct Kind.Collect p list formed n next x q y = collectAct formed n next p x
+lineAct Malformed p list formed n next x q y = alone Unchanged next x
+lineAct Kind.New p list formed n next x q y = alone Unchanged next x
+lineAct Kind.Movers p list formed n next x q y = alone Unchanged next x
 
 -- a text put into an output at index `at`, and the index after it; where there is no room for 64 bytes, nothing is
 abbrev pub putAt : ℕ → List ℕ → List ℕ → List ℕ

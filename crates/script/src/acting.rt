@@ -9,13 +9,8 @@ use rendezvous::alone;
 use rendezvous::collect_act;
 use rendezvous::offer_act;
 use rendezvous::step_act;
-ghost use Prim.Native.Nat.{_%_};
 ghost use mathlib.Core.Path.{_≡_};
-ghost use Rattle.process.specs.Rules.{partnerOf};
-ghost use Rattle.rendezvous.specs.Table.{process};
-ghost use Rattle.rendezvous.specs.Acts.{Reads, done};
-ghost use Rattle.script.specs.Types.{ProcessTable};
-ghost use Rattle.script.specs.Private.{calledBy};
+ghost use Rattle.script.specs.Private.{lineAct};
 
 // From what was read of the table. A command of another kind does nothing here.
 pub fn line_act(
@@ -29,7 +24,7 @@ pub fn line_act(
     q: u8,
     y: Process,
 ) -> Act
-    ensures { λ r. ⌜ ((t : ProcessTable) → Reads t number formed n next x → q ≡ partnerOf x → y ≡ process t (q % 32) → done t (number % 32) (q % 32) r ≡ calledBy t kind number list) ⌝ }
+    ensures { λ r. ⌜ r ≡ lineAct kind number list formed n next x q y ⌝ }
 {
     match kind {
         Kind::Offer => offer_act(formed, n, next, number, x, list),

@@ -1,6 +1,6 @@
 // The script program of document 01, from all input bytes to all output bytes: its lines, commands, calls and printed lines.
 use rendezvous::ProcessTable;
-ghost use Rattle.script.specs.Examples.{MarkedSession, MalformedLines};
+ghost use Rattle.script.specs.Examples.{MarkedSession, CarriedMessages, MalformedLines};
 ghost use Rattle.script.specs.Feeding.{Pieces};
 
 mod acting;
@@ -38,6 +38,11 @@ pub fn pieces()
 // Carries the marked session of document 01, byte for byte.
 pub fn marked_session()
     ensures { λ _. ⌜ MarkedSession ⌝ }
+{}
+
+// Carries a limit and a whole number from offer to collection, byte for byte.
+pub fn carried_messages()
+    ensures { λ _. ⌜ CarriedMessages ⌝ }
 {}
 
 // Carries an example of each line that gives 8.

@@ -1,4 +1,8 @@
 // The script program: it reads standard input to its end, feeds what it reads to a session, and writes what the session prints.
+//
+// No contract can say what `read` and `write` of the operating system do. So what the program makes of their answers is decided by
+// functions of its own, in `answers`, and what it hands over is asked by the three functions that write: each has a `requires` for the
+// bytes, which its caller is proved to meet.
 use libc::STDERR_FILENO;
 use libc::STDIN_FILENO;
 use libc::STDOUT_FILENO;
@@ -6,14 +10,25 @@ use script::Fed;
 use script::Session;
 ghost use Prim.Native.Nat.{_*_, _≤_};
 ghost use mathlib.Core.Path.{_≡_};
+ghost use mathlib.Core.Bool.{true};
 ghost use lib.ListN.{length, take};
-ghost use Rattle.script.specs.Feeding.{stateOf, fed};
+ghost use Rattle.script.specs.Feeding.{stateOf, fed, finished};
+ghost use Rattle.script_main.specs.Turns.{isEnded, OneTurn, AllTurns, AtEnd, sentenceOf};
 
-// How the reading stands: it goes on, the input has ended, or a read or a write has failed.
+mod answers;
+
+use answers::after_read;
+use answers::after_write;
+use answers::goes_on;
+use answers::has_ended;
+
+// How the program stands: it goes on, the input has ended, a read or a write has failed, or there were too many reads.
 enum Status {
     Going,
     Ended,
-    Failed,
+    Unreadable,
+    Unwritable,
+    Endless,
 }
 
 struct Progress {
@@ -38,77 +53,103 @@ fn feed_all(session: Session, piece: &[u8], output: &mut [u8]) -> Fed
     script::feed(session, piece, output)
 }
 
-fn failed(session: Session, sentence: &[u8]) -> Progress {
+// Writes what a piece prints to a session, and nothing else.
+fn write_printed(session: Session, piece: &[u8], printed: &[u8]) -> bool
+    requires { ⌜ now printed ≡ fed (stateOf session) (now piece) .prints ⌝ }
+{
+    io::write_all(STDOUT_FILENO, printed)
+}
+
+// Writes what the end of the input prints, where it has ended, and nothing else.
+fn write_finished(last: Progress, printed: &[u8]) -> bool
+    requires ended { ⌜ isEnded (last .status) ≡ true ⌝ }
+    requires { ⌜ now printed ≡ finished (stateOf (last .session)) ⌝ }
+{
+    io::write_all(STDOUT_FILENO, printed)
+}
+
+// Writes the sentence of a failure, and no other.
+fn write_sentence(status: Status, sentence: &[u8])
+    requires { ⌜ now sentence ≡ sentenceOf status ⌝ }
+{
     io::write_all(STDERR_FILENO, sentence);
-    Progress {
-        status: Status::Failed,
-        session: session,
-    }
 }
 
 // One read, and what it makes the session print.
 fn read_once(session: Session, input: &mut [u8], output: &mut [u8]) -> Progress
     requires { ⌜ 64 * length (now input) ≤ length (now output) ⌝ }
+    ensures { λ r. ⌜ OneTurn (stateOf session) (now (input .exit)) r ⌝ }
 {
     let got = libc::read(STDIN_FILENO, input);
-    if got < 0 {
-        return failed(session, b"script: standard input cannot be read\n");
-    }
-    let count = io::count(got, input);
-    if count == 0 {
+    let status = after_read(got);
+    if !goes_on(status) {
         return Progress {
-            status: Status::Ended,
+            status: status,
             session: session,
         };
     }
+    let count = io::count(got, input);
     let fed = feed_all(session, &input[..count], output);
     let filled = fed.filled;
     let after = fed.session;
-    if io::write_all(STDOUT_FILENO, &output[..filled]) {
-        Progress {
-            status: Status::Going,
-            session: after,
-        }
-    } else {
-        failed(after, b"script: standard output cannot be written\n")
+    let written = write_printed(session, &input[..count], &output[..filled]);
+    let next = after_write(status, written);
+    Progress {
+        status: next,
+        session: after,
     }
 }
 
 // Reads to the end of the input, or to the first failure. The count of reads falls, so that the loop ends; no input has as many.
 fn read_all(session: Session, input: &mut [u8], output: &mut [u8]) -> Progress
     requires { ⌜ 64 * length (now input) ≤ length (now output) ⌝ }
+    ensures { λ r. ⌜ AllTurns (stateOf session) r ⌝ }
 {
     let mut now = session;
     let mut left: u64 = 18446744073709551615;
     while 0 < left {
         let next = read_once(now, input, output);
         let status = next.status;
+        if !goes_on(status) {
+            return next;
+        }
         let after = next.session;
         now = after;
-        match status {
-            Status::Going => {}
-            Status::Ended => {
-                return next;
-            }
-            Status::Failed => {
-                return next;
-            }
-        }
         left = left - 1;
     }
-    failed(now, b"script: the input has too many pieces\n")
+    Progress {
+        status: Status::Endless,
+        session: now,
+    }
 }
 
 // At the end of the input an unended last line is answered.
-fn write_end(session: Session) {
+fn write_end(last: Progress) -> Status
+    ensures { λ r. ⌜ AtEnd (last .status) r ⌝ }
+{
+    let status = last.status;
+    if !has_ended(status) {
+        return status;
+    }
+    let session = last.session;
     let text = script::finish(session);
     let bytes = text.bytes;
     let count = script::least(text.length, 64);
-    if !io::write_all(STDOUT_FILENO, &bytes[..count]) {
-        io::write_all(
-            STDERR_FILENO,
+    let written = write_finished(last, &bytes[..count]);
+    after_write(status, written)
+}
+
+// Tells on standard error what has failed.
+fn tell(status: Status) {
+    match status {
+        Status::Unreadable => write_sentence(status, b"script: standard input cannot be read\n"),
+        Status::Unwritable => write_sentence(
+            status,
             b"script: standard output cannot be written\n",
-        );
+        ),
+        Status::Endless => write_sentence(status, b"script: the input has too many pieces\n"),
+        Status::Going => {}
+        Status::Ended => {}
     }
 }
 
@@ -116,11 +157,5 @@ fn main() {
     let mut input = io::buffer();
     let mut output = output_buffer();
     let last = read_all(script::start(), &mut input, &mut output);
-    let status = last.status;
-    let session = last.session;
-    match status {
-        Status::Ended => write_end(session),
-        Status::Going => {}
-        Status::Failed => {}
-    }
+    tell(write_end(last));
 }

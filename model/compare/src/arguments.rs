@@ -2,7 +2,8 @@
 
 use crate::part::Budget;
 use crate::program::Program;
-use std::path::Path;
+use crate::repository;
+use std::path::PathBuf;
 use std::time::Duration;
 
 pub const USAGE: &str = "\
@@ -70,6 +71,8 @@ pub enum Task {
 pub struct Arguments {
     pub task: Task,
     pub budget: Budget,
+    /// The repository that the library and the script program are taken from.
+    pub root: PathBuf,
     pub program: Program,
     pub both_sides_model: bool,
 }
@@ -78,6 +81,7 @@ pub struct Arguments {
 pub fn read(words: &[String]) -> Result<Arguments, String> {
     let (first, rest) = words.split_first().ok_or("A part is missing.")?;
     let task = task(first)?;
+    let root = repository::root()?;
     let mut arguments = Arguments {
         task,
         budget: Budget {
@@ -85,8 +89,9 @@ pub fn read(words: &[String]) -> Result<Arguments, String> {
             time: Duration::from_secs(10),
         },
         program: Program {
-            path: Path::new(env!("CARGO_MANIFEST_DIR")).join("../../target/bin/script_main"),
+            path: root.join("target/bin/script_main"),
         },
+        root,
         both_sides_model: false,
     };
     let mut rest = rest.iter();

@@ -189,7 +189,7 @@ mod tests {
     }
 
     #[test]
-    fn two_that_match_meet_in_every_order() {
+    fn two_that_match_meet_in_some_orders() {
         let sums = explored(&vec![
             vec![vec![guard(1, true, true)]],
             vec![vec![guard(0, false, true)]],

@@ -1,8 +1,9 @@
 //! Compares the proved library and the script program with the model.
 //!
-//! Each part is a subcommand and prints one summary line; a difference is told
-//! with the seed of its run and the smallest case found. The last line of every
-//! run is `N passed, M failed`, and the exit status is 0 only if none failed.
+//! The first line of every run names the library that was linked. Each part is a
+//! subcommand and prints one summary line; a difference is told with the seed of
+//! its run and the smallest case found. The last line is `N passed, M failed`,
+//! and the exit status is 0 only if none failed.
 
 mod arguments;
 mod damage;
@@ -13,6 +14,7 @@ mod fuzz;
 mod interleavings;
 mod ledger;
 mod library;
+mod mark;
 mod nan;
 mod pace;
 mod part;
@@ -25,6 +27,7 @@ mod reduce;
 mod reduce_desk;
 #[path = "../../../crates/exports/rendezvous.rs"]
 mod rendezvous;
+mod repository;
 mod scripts;
 mod spoil;
 mod stress;
@@ -52,19 +55,32 @@ fn main() -> ExitCode {
         }
     };
     let mut counts = Counts::default();
-    match arguments.task {
-        Task::One(part) => one(&arguments, part, arguments.budget, &mut counts),
-        Task::All => all(&arguments, arguments.budget, &mut counts),
-        Task::Long => long(&arguments, &mut counts),
-        Task::Once => {
-            fuzz::once(&arguments.program);
-            return ExitCode::SUCCESS;
+    match repository::library(&arguments.root) {
+        Ok(line) => {
+            println!("{line}");
+            compare(&arguments, &mut counts);
+        }
+        Err(line) => {
+            println!("{line}");
+            counts.failed += 1;
         }
     }
     println!("{} passed, {} failed", counts.passed, counts.failed);
     match counts.failed {
         0 => ExitCode::SUCCESS,
         _ => ExitCode::FAILURE,
+    }
+}
+
+fn compare(arguments: &Arguments, counts: &mut Counts) {
+    match arguments.task {
+        Task::One(part) => one(arguments, part, arguments.budget, counts),
+        Task::All => all(arguments, arguments.budget, counts),
+        Task::Long => long(arguments, counts),
+        Task::Once => {
+            fuzz::once(&arguments.program);
+            counts.passed += 1;
+        }
     }
 }
 

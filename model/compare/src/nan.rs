@@ -1,6 +1,6 @@
-//! NaNs, passed as numbers, by way of the compiled code's message, guard, record
-//! and table: every bit of their payload comes back. The logic has one NaN, so
-//! that no contract can say it.
+//! NaNs, passed as numbers, by way of calls of the compiled code on a table that
+//! holds them in a message: a refused offer, steps, a collection. Every bit of
+//! their payload comes back. The logic has one NaN, so that no contract can say it.
 
 use crate::draw::NANS;
 use crate::part::{Budget, Finding, Verdict};
@@ -14,12 +14,13 @@ pub fn run(budget: Budget) -> Verdict {
     let mut random = Random::new(budget.seed);
     let drawn = (0..RANDOM_NANS).map(|_| random.bits() | 0x7f80_0000);
     let patterns: Vec<u32> = NANS.into_iter().chain(drawn).collect();
-    for pair in patterns.windows(2) {
-        kept(pair[0], pair[1]).map_err(|text| Finding::new(budget.seed, text))?;
+    let others = patterns.iter().cycle().skip(1);
+    for (&one, &other) in patterns.iter().zip(others) {
+        kept(one, other).map_err(|text| Finding::new(budget.seed, text))?;
     }
     Ok(format!(
-        "nan: {} patterns of NaNs and infinities, each through a reading and both halves of a limit, bit for bit",
-        patterns.len() - 1
+        "nan: {} patterns of NaNs and infinities, each as a reading and as both halves of a limit through a refused offer, steps and a collection, bit for bit",
+        patterns.len()
     ))
 }
 

@@ -168,15 +168,50 @@ mod tests {
         assert_eq!(reply.table, table);
     }
 
+    fn untouched(bytes: &[u8]) -> bool {
+        bytes.iter().all(|&byte| byte == 0xee)
+    }
+
+    /// Makes every call on the first bytes of a table and into buffers, all of
+    /// these lengths: it writes both buffers, or nothing if one is too short.
+    fn all_or_nothing(before: &[u8], lengths: [usize; 3]) {
+        let [table, out, answer] = lengths;
+        let guard = [1, 1, 0, 0, 0, 0, 0, 0, 0, 0, 0, 0];
+        let given = &before[..table];
+        type Fills<'a> = &'a dyn Fn(&mut [u8], &mut [u8]) -> bool;
+        let calls: [Fills; 4] = [
+            &|out, answer| rendezvous::offer(given, 0, &guard, out, answer),
+            &|out, answer| rendezvous::step(given, 0, out, answer),
+            &|out, answer| rendezvous::collect(given, 0, out, answer),
+            &|out, answer| rendezvous::runnable(given, out, answer),
+        ];
+        for call in calls {
+            let (mut bytes, mut said) = (vec![0xee; out], vec![0xee; answer]);
+            let whole = table >= TABLE && out >= TABLE && answer >= ANSWER;
+            assert_eq!(call(&mut bytes, &mut said), whole, "{lengths:?}");
+            assert_eq!(untouched(&bytes), !whole, "{lengths:?}");
+            assert_eq!(untouched(&said), !whole, "{lengths:?}");
+        }
+    }
+
     #[test]
-    fn a_buffer_that_is_too_short_is_left_alone() {
+    fn a_call_writes_all_or_nothing() {
+        let table = Proved.create(2).expect("two is a good number");
+        for short in [0, 1, TABLE - 1] {
+            all_or_nothing(table.bytes(), [short, TABLE, ANSWER]);
+            all_or_nothing(table.bytes(), [TABLE, short, ANSWER]);
+            all_or_nothing(table.bytes(), [TABLE, TABLE, short.min(ANSWER - 1)]);
+        }
+        all_or_nothing(table.bytes(), [0, 0, 0]);
+        all_or_nothing(table.bytes(), [TABLE, TABLE, ANSWER]);
+    }
+
+    #[test]
+    fn a_new_table_is_written_with_its_answer_or_not_at_all() {
         for (table, answer) in [(TABLE - 1, ANSWER), (TABLE, ANSWER - 1), (0, 0)] {
-            let mut out = vec![0xee; table];
-            let mut said = vec![0xee; answer];
-            let untouched = |bytes: &[u8]| bytes.iter().all(|&byte| byte == 0xee);
+            let (mut out, mut said) = (vec![0xee; table], vec![0xee; answer]);
             assert!(!rendezvous::create(2, &mut out, &mut said));
-            assert_eq!(untouched(&out), table < TABLE);
-            assert_eq!(untouched(&said), answer < ANSWER);
+            assert!(untouched(&out) && untouched(&said));
         }
     }
 
@@ -214,13 +249,35 @@ mod tests {
     }
 
     #[test]
-    fn a_session_that_does_not_fit_is_left_alone() {
-        let (mut session, mut short) = ([0; SESSION], [0xee; SESSION - 1]);
+    fn a_session_that_is_too_short_is_neither_read_nor_written() {
+        let mut session = [0; SESSION];
         assert!(rendezvous::script_start(&mut session));
+        let mut short = [0xee; SESSION - 1];
         assert!(!rendezvous::script_start(&mut short));
-        let fed = rendezvous::script_feed(&session, b"m\n", &mut short, &mut [0; 2 * LINE]);
-        assert_eq!(fed, None);
-        assert!(short.iter().all(|&byte| byte == 0xee));
-        assert_eq!(rendezvous::script_finish(&session, &mut [0; LINE - 1]), 0);
+        assert!(untouched(&short));
+        for (state, after) in [(SESSION - 1, SESSION), (SESSION, SESSION - 1), (0, 0)] {
+            let (mut next, mut out) = (vec![0xee; after], [0xee; 2 * LINE]);
+            let fed = rendezvous::script_feed(&session[..state], b"m\n", &mut next, &mut out);
+            assert_eq!(fed, None);
+            assert!(untouched(&next) && untouched(&out));
+        }
+    }
+
+    #[test]
+    fn a_session_ends_only_where_both_are_long_enough() {
+        let (mut session, mut begun) = ([0; SESSION], [0; SESSION]);
+        assert!(rendezvous::script_start(&mut session));
+        let fed = rendezvous::script_feed(&session, b"m", &mut begun, &mut [0; LINE]);
+        assert_eq!(fed, Some((1, 0)));
+        for (state, room, prints) in [
+            (SESSION, LINE, 4),
+            (SESSION - 1, LINE, 0),
+            (SESSION, LINE - 1, 0),
+        ] {
+            let mut out = vec![0xee; room];
+            assert_eq!(rendezvous::script_finish(&begun[..state], &mut out), prints);
+            assert!(untouched(&out[prints..]));
+            assert!(prints == 0 || out.starts_with(b"x 8\n"));
+        }
     }
 }

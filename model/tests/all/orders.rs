@@ -47,7 +47,7 @@ fn sends(partner: usize) -> Guard {
 }
 
 #[test]
-fn two_that_match_always_meet() {
+fn two_that_match_have_met_at_every_rest() {
     assert_eq!(
         open_counts(&[&[sends(1)], &[receive(0)]]),
         BTreeSet::from([0])

@@ -6,12 +6,13 @@ returns : tie.Need-returns
 returns c =
     let g = c .before .before .before .before in
     let r = g .before .before .before in
-    rw (r .collect .ensures, r .before .decode .ensures) at (g .give .ensures)
+    rw (r .collect .ensures, r .before .decode .ensures, r .before .before .is-table .ensures) at (g .give .ensures)
 
 pub rendezvous-collect-spec : {M : Type 1} → statement M
 rendezvous-collect-spec =
     tie.close
     (tie.spec
+    (λ c κs. search needs)
     (λ c κs. search needs)
     (λ c κs. search needs)
     (λ c κs. search needs)

@@ -1,18 +1,52 @@
+use mathlib.Core.Path.{_≡_, refl, sym, _∙_, ap}
+use mathlib.Core.Bool.{true, false}
 use native.Mathlib.Omega.{arith}
 use borrow.Author.Needs.{needs}
-use lib.ListN.{length-take}
+use borrow.Author.Tests.{not-true, not-false}
+use lib.IntN.{ℤ}
+use lib.ListN.{length, length-take}
+use Rattle.io.specs.Counts.{clamped}
+use Rattle.script_main.specs.declared.Status.{Status}
+use Rattle.script_main.specs.Turns.{afterRead, afterWrite, isGoing}
+use Rattle.script_main.proofs.Turns.{passed-on, turnOf, counted-fed, turn-stops, turn-goes}
 use Rattle.script_main.proofs.read_once.Statement.{statement}
 use Rattle.script_main.proofs.read_once.Tie as tie
 
-slice-aggregate-write-all : tie.Need-slice-aggregate-write-all
-slice-aggregate-write-all c = simp length-take (omega (arith, c .before .before .before .before .feed-all .ensures .1 .1))
+returns : tie.Need-returns
+returns c =
+    let read = c .before .before .before .before .before .read in
+    let a : c .before .before .after-read .result ≡ afterRead (read .result) = c .before .before .after-read .ensures ∙ ap afterRead (passed-on _ (read .ok)) in
+    let e : isGoing (afterRead (read .result)) ≡ false = ap isGoing (sym a) ∙ sym (c .before .goes-on .ensures) ∙ not-true _ (c .if1 .taken) in
+    let t = turnOf (read .result) _ (read .last .1 .0) (read .kept .1 .0) (read .ensures) true in
+    let s = turn-stops _ t e in
+    (t, refl, a ∙ s .0, s .1)
+
+slice-aggregate-write-printed-2 : tie.Need-slice-aggregate-write-printed-2
+slice-aggregate-write-printed-2 c = simp length-take (omega (arith, c .before .before .before .before .before .feed-all .ensures .1 .1))
+
+returns-2 : tie.Need-returns-2
+returns-2 c =
+    let at-feed = c .before .before .before .before .before .before .before in
+    let at-count = at-feed .before .before .before in
+    let goes = at-count .before .before in
+    let read = goes .before .before .before .before .before .read in
+    let a : goes .before .before .after-read .result ≡ afterRead (read .result) = goes .before .before .after-read .ensures ∙ ap afterRead (passed-on _ (read .ok)) in
+    let e : isGoing (afterRead (read .result)) ≡ true = ap isGoing (sym a) ∙ sym (goes .before .goes-on .ensures) ∙ not-false _ (goes .if1 .left) in
+    let t = turnOf (read .result) _ (read .last .1 .0) (read .kept .1 .0) (read .ensures) (c .before .write-printed .result) in
+    let n : at-count .count .result ≡ clamped (t .got) (length (t .buffer)) =
+    at-count .count .ensures .1 ∙ ap (λ (z : ℤ). clamped z (length (t .buffer))) (passed-on (t .got) (read .ok)) in
+    let w : c .after-write .result ≡ afterWrite (afterRead (t .got)) (t .written) = c .after-write .ensures ∙ ap (λ (x : Status). afterWrite x (t .written)) a in
+    (t, refl, w ∙ turn-goes t e, at-feed .feed-all .ensures .0 ∙ counted-fed _ t _ n)
 
 pub read-once-spec : {M : Type 1} → statement M
 read-once-spec =
     tie.close
     (tie.spec
     (λ c κs. search needs)
+    (λ c κs. search needs)
+    (λ c κs. search needs)
     (λ c. search needs)
+    returns
     (λ c κs. search needs)
     (λ c. search needs)
     (λ c. search needs)
@@ -20,16 +54,9 @@ read-once-spec =
     (λ c. search needs)
     (λ c. search needs)
     (λ c. search needs)
-    (λ c. search needs)
+    slice-aggregate-write-printed-2
     (λ c κs. search needs)
-    (λ c. search needs)
-    slice-aggregate-write-all
-    (λ c κs. search needs)
-    (λ c. search needs)
     (λ c κs. search needs)
     (λ c. search needs)
     (λ c. search needs)
-    (λ c. search needs)
-    (λ c. search needs)
-    (λ c. search needs)
-    (λ c. search needs))
+    returns-2)

@@ -1,11 +1,11 @@
 use Prim.Native.Nat.{_≤_, _-_}
-use mathlib.Core.Path.{_≡_, refl, _∙_}
+use mathlib.Core.Path.{_≡_}
 use mathlib.Core.Bool.{_&&_}
 use native.Mathlib.Omega.{arith}
 use borrow.Author.Needs.{needs}
 use lib.ListN.{length}
 use Rattle.rendezvous.specs.WellFormed.{allBelow, countFits, fitsAt}
-use Rattle.rendezvous.proofs.Done.{done-own}
+use Rattle.rendezvous.proofs.Done.{collect-written}
 use Rattle.rendezvous.proofs.Forms.{formed-start, formed-more, formed-end}
 use Rattle.rendezvous.proofs.Lengths.{length-mapped}
 use Rattle.rendezvous.proofs.ProcessTable.collect.Statement.{statement}
@@ -33,7 +33,7 @@ returns c =
     let s = c .before .before in
     let l = s .before .before .before .before in
     let formed = formed-end _ (l .loop .k) _ (omega arith) (l .loop .inv .2) in
-    done-own _ _ _ 0 _ (s .collect-act .ensures .0) refl ∙ s .collect-act .ensures .1 _ 0 (formed, refl, refl, refl)
+    collect-written _ _ _ formed _ (s .collect-act .ensures)
 
 pub collect-spec : {M : Type 1} → statement M
 collect-spec =

@@ -1,12 +1,12 @@
 use Prim.Native.Nat.{_≤_, _-_}
 use mathlib.Core.Logic.{⊎-elim}
-use mathlib.Core.Path.{_≡_, refl, _∙_}
+use mathlib.Core.Path.{_≡_, _∙_}
 use mathlib.Core.Bool.{_&&_}
 use native.Mathlib.Omega.{arith}
 use borrow.Author.Needs.{needs}
 use lib.ListN.{length}
 use Rattle.rendezvous.specs.WellFormed.{allBelow, countFits, fitsAt}
-use Rattle.rendezvous.proofs.Done.{done-both, done-own}
+use Rattle.rendezvous.proofs.Done.{done-both, done-own, step-done}
 use Rattle.rendezvous.proofs.Forms.{formed-start, formed-more, formed-end}
 use Rattle.rendezvous.proofs.Lengths.{length-mapped}
 use Rattle.rendezvous.proofs.ProcessTable.step.Statement.{statement}
@@ -34,7 +34,7 @@ returns c =
     let s = c .before .before .before in
     let l = s .before .before .before .before .before .before in
     let formed = formed-end _ (l .loop .k) _ (omega arith) (l .loop .inv .2) in
-    let does = s .step-act .ensures _ (formed, refl, refl, refl) (s .before .before .before .partner .ensures) refl in
+    let does = step-done _ _ _ formed _ _ (s .before .before .before .partner .ensures) (s .step-act .ensures) in
     ⊎-elim
     (λ a. done-both _ _ _ _ _ _ (a .0 .taken) (a .2 .ensures) (a .3) ∙ does)
     (λ a. done-own _ _ _ _ _ (a .0 .left) (a .1) ∙ does)

@@ -1,14 +1,12 @@
-use mathlib.Core.Path.{ap}
 use native.Mathlib.Omega.{arith}
 use borrow.Author.Needs.{needs}
-use Rattle.rendezvous.specs.declared.Act.{Act}
-use Rattle.rendezvous.proofs.Done.{offer-act-refused, offer-act-accepted}
+use Rattle.rendezvous.specs.Acts.{offerAct}
 use Rattle.rendezvous.proofs.Verdicts.{tests-passed}
 use Rattle.rendezvous.proofs.acts.offer_act.Statement.{statement}
 use Rattle.rendezvous.proofs.acts.offer_act.Tie as tie
 
-add-next : tie.Need-add-t13
-add-next c =
+add-number : tie.Need-add-number
+add-number c =
     let v = c .before .before .before in
     let a = v .before .args in
     let h = tests-passed (a .formed) (a .n) (a .p) (a .list) (a .x .place) (a .next) _ (v .offer-verdict .ensures) (c .before .enum-told .given .1) in
@@ -21,16 +19,12 @@ entered-requires c κs =
     tests-passed (a .formed) (a .n) (a .p) (a .list) (a .x .place) (a .next) _ (v .offer-verdict .ensures) (c .before .enum-told .given .1) .most
 
 returns : tie.Need-returns
-returns c = (
-  ap (λ (a : Act). a .told) (c .alone .ensures),
-  λ t j reads. offer-act-refused t _ _ _ _ _ reads _ _ (c .before .before .before .before .offer-verdict .ensures) _ (c .before .before .refusal .given .1) j _ (c .alone .ensures),
-)
+unfolding offerAct
+returns c = rw (← c .before .before .before .before .offer-verdict .ensures, c .before .before .refusal .given .1) (c .alone .ensures)
 
 returns-2 : tie.Need-returns-2
-returns-2 c = (
-  ap (λ (a : Act). a .told) (c .alone2 .ensures),
-  λ t j reads. offer-act-accepted t _ _ _ _ _ reads _ _ (c .before .before .before .before .before .offer-verdict .ensures) (c .before .before .before .enum-told .given .1) _ (c .before .entered .ensures) j _ (c .alone2 .ensures),
-)
+unfolding offerAct
+returns-2 c = rw (← c .before .before .before .before .before .offer-verdict .ensures, c .before .before .before .enum-told .given .1, ← c .before .entered .ensures) (c .alone2 .ensures)
 
 pub offer-act-spec : {M : Type 1} → statement M
 offer-act-spec =
@@ -40,7 +34,7 @@ offer-act-spec =
     (λ c. search needs)
     (λ c κs. search needs)
     (λ c. search needs)
-    add-next
+    add-number
     entered-requires
     (λ c κs. search needs)
     returns

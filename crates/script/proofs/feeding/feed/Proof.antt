@@ -1,5 +1,5 @@
 use Prim.Native.Nat.{ℕ, _+_, _-_, _≤_, _<_, _%_}
-use mathlib.Core.Path.{_≡_, refl, sym, _∙_}
+use mathlib.Core.Path.{_≡_, sym, _∙_}
 use mathlib.Core.Logic.{⊎-elim}
 use mathlib.Core.Bool.{_&&_}
 use mathlib.Core.List.{List, [], _∷_, _++_}
@@ -16,10 +16,9 @@ use Rattle.rendezvous.proofs.Done.{done-both, done-own}
 use Rattle.script.specs.Types.{Reply}
 use Rattle.script.specs.Printing.{endOfLine}
 use Rattle.script.specs.Feeding.{tableOf}
-use Rattle.script.specs.Private.{calledBy}
 use Rattle.script.proofs.Lists.{take-most}
 use Rattle.script.proofs.Outputs.{put-end, put-all}
-use Rattle.script.proofs.Turns.{replyAfter, after-new, after-movers, line-turn, Sized, sized-new}
+use Rattle.script.proofs.Turns.{calledBy, line-done, replyAfter, after-new, after-movers, line-turn, Sized, sized-new}
 use Rattle.script.proofs.Going.{Going, going-start, going-byte, going-line, going-end}
 use Rattle.script.proofs.feeding.feed.Statement.{statement}
 use Rattle.script.proofs.feeding.feed.Tie as tie
@@ -75,7 +74,7 @@ called : (c : tie.At-match-came Inv-loop2 μ-loop2 Inv-loop μ-loop) → let p =
 called c =
     let l = c .before .before .before .before .before .before .before .before .before in
     let formed = formed-end _ (l .loop2 .k) _ (omega (arith, c .before .before .before .before .before .before .before .before .loop2-test .left)) (l .loop2 .inv .2) in
-    let does = c .before .before .before .before .line-act .ensures _ (formed, refl, refl, refl) (c .before .before .before .before .before .before .partner .ensures) refl in
+    let does = line-done _ _ _ _ _ _ _ formed (c .before .before .before .before .before .before .partner .ensures) (c .before .before .before .before .line-act .ensures) in
     ⊎-elim (λ a. done-both _ _ _ _ _ _ (a .0 .taken) (a .2 .ensures) (a .3) ∙ does) (λ a. done-own _ _ _ _ _ (a .0 .left) (a .1) ∙ does) (c .before .before .before .if2 .came)
 
 -- .. and with `n` and `m` it is the reply that the kind asks for

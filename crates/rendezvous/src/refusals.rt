@@ -1,0 +1,111 @@
+// What turns a call of one process away: the tests in their order, on what the call reads of the table.
+use crate::LAST_TRANSACTION;
+use crate::Refusal;
+use crate::Verdict;
+use alternative::Guard;
+use alternative::GuardList;
+use alternative::action_holds_nan;
+use alternative::any_enabled;
+use process::Place;
+use process::TransactionId;
+use process::partner_fits;
+ghost use mathlib.Core.Path.{_≡_};
+ghost use lib.ListN.{take};
+ghost use Rattle.rendezvous.specs.Refusals.{processTests, requireGuards, listVerdict, stateVerdict, offerTests};
+
+// 7, then 2: `formed` says whether the table of n is well-formed.
+pub fn process_verdict(formed: bool, n: u8, p: u8) -> Verdict
+    ensures { λ r. ⌜ r ≡ processTests formed n p Verdict.Accepted ⌝ }
+{
+    if !formed {
+        return Verdict::Refused(Refusal::NotWellFormed);
+    }
+    if p < n {
+        Verdict::Accepted
+    } else {
+        Verdict::Refused(Refusal::NoSuchProcess)
+    }
+}
+
+// 4, then 5, guard by guard.
+fn guards_verdict(n: u8, p: u8, guards: [Guard; 8], count: usize) -> Verdict
+    ensures { λ r. ⌜ r ≡ requireGuards n p (take count guards) Verdict.Accepted ⌝ }
+{
+    let mut k: usize = 0;
+    while k < count {
+        if 8 <= k {
+            return Verdict::Accepted;
+        }
+        let g = guards[k];
+        if !partner_fits(n, p, g) {
+            return Verdict::Refused(Refusal::Partner);
+        }
+        let action = g.action;
+        if action_holds_nan(action) {
+            return Verdict::Refused(Refusal::NotANumber);
+        }
+        k = k + 1;
+    }
+    Verdict::Accepted
+}
+
+// 3, then 4 and 5, then 6.
+fn list_verdict(n: u8, p: u8, list: GuardList) -> Verdict
+    ensures { λ r. ⌜ r ≡ listVerdict n p list Verdict.Accepted ⌝ }
+{
+    let count = list.count;
+    if count < 1 {
+        return Verdict::Refused(Refusal::GuardCount);
+    }
+    if 8 < count {
+        return Verdict::Refused(Refusal::GuardCount);
+    }
+    let guards = list.guards;
+    match guards_verdict(n, p, guards, count) {
+        Verdict::Refused(refusal) => Verdict::Refused(refusal),
+        Verdict::Accepted => {
+            if any_enabled(guards, count) {
+                Verdict::Accepted
+            } else {
+                Verdict::Refused(Refusal::NoneEnabled)
+            }
+        }
+    }
+}
+
+// From the state: 11, then 12.
+fn state_verdict(place: Place, next: TransactionId) -> Verdict
+    ensures { λ r. ⌜ r ≡ stateVerdict place next ⌝ }
+{
+    if !place.is_idle() {
+        return Verdict::Refused(Refusal::NotIdle);
+    }
+    if next.0 < LAST_TRANSACTION {
+        Verdict::Accepted
+    } else {
+        Verdict::Refused(Refusal::LastTransaction)
+    }
+}
+
+// Every refusal of an offer, in its order: `formed` says whether the table is well-formed, `place` is the process's.
+pub fn offer_verdict(
+    formed: bool,
+    n: u8,
+    p: u8,
+    list: GuardList,
+    place: Place,
+    next: TransactionId,
+) -> Verdict
+    ensures { λ r. ⌜ r ≡ offerTests formed n p list place next ⌝ }
+{
+    if !formed {
+        return Verdict::Refused(Refusal::NotWellFormed);
+    }
+    if n <= p {
+        return Verdict::Refused(Refusal::NoSuchProcess);
+    }
+    match list_verdict(n, p, list) {
+        Verdict::Refused(refusal) => Verdict::Refused(refusal),
+        Verdict::Accepted => state_verdict(place, next),
+    }
+}

@@ -1,0 +1,88 @@
+-- To be believed. What the program makes of what the operating system answers. Of `read` and `write` the contracts of libc say how many bytes they moved, and nothing of which
+-- bytes those were. So a turn of the program's loop is what the system answered in it, and the definitions say, for all answers, how the program goes on.
+use Prim.Native.Nat.{ℕ, zero, suc}
+use mathlib.Core.Path.{_≡_}
+use mathlib.Core.Bool.{Bool, true, false, cond}
+use mathlib.Core.List.{List, [], _∷_}
+use lib.IntN.{ℤ, pos, negsuc}
+use lib.ListN.{length, take}
+use Rattle.libc.specs.Io.{Moved}
+use Rattle.text.specs.Ascii.{bytes}
+use Rattle.script.specs.Feeding.{State, stateOf, fed, fedPieces}
+use Rattle.script_main.specs.declared.Status.{Status}
+use Rattle.script_main.specs.declared.Status.the-variants.{Going, Ended, Unreadable, Unwritable, Endless}
+use Rattle.script_main.specs.declared.Progress.{Progress}
+
+-- what `read` returned, the buffer after it, and whether all that the piece prints was written; libc promises that `read` returns -1, or no more than the buffer has
+pub record Turn : Type 0 where
+  pub got : ℤ
+  pub buffer : List ℕ
+  pub written : Bool
+  pub moved : Moved (length buffer) got
+
+-- the bytes that were read; a read that failed has none
+abbrev pub count : ℤ → ℕ
+count (pos n) = n
+count (negsuc n) = 0
+
+unfoldable pub pieceOf : Turn → List ℕ
+pieceOf t = take (count (t .got)) (t .buffer)
+
+-- a negative answer says that the read failed, 0 that the input has ended
+unfoldable pub afterRead : ℤ → Status
+afterRead (negsuc n) = Unreadable
+afterRead (pos zero) = Ended
+afterRead (pos (suc n)) = Going
+
+-- a write that did not take all has failed
+unfoldable pub afterWrite : Status → Bool → Status
+afterWrite status written = cond written status Unwritable
+
+abbrev pub isGoing : Status → Bool
+isGoing Going = true
+isGoing Ended = false
+isGoing Unreadable = false
+isGoing Unwritable = false
+isGoing Endless = false
+
+abbrev pub isEnded : Status → Bool
+isEnded Going = false
+isEnded Ended = true
+isEnded Unreadable = false
+isEnded Unwritable = false
+isEnded Endless = false
+
+-- where the read does not go on, nothing is written
+unfoldable pub statusOf : Turn → Status
+statusOf t = let read = afterRead (t .got) in cond (isGoing read) (afterWrite read (t .written)) read
+
+-- the pieces that turns read, up to the first that does not go on, and how that one ends; where all go on, there were too many
+unfoldable pub pieces : List Turn → List (List ℕ)
+pieces [] = []
+pieces (t ∷ ts) = pieceOf t ∷ cond (isGoing (statusOf t)) (pieces ts) []
+
+unfoldable pub statusAfter : List Turn → Status
+statusAfter [] = Endless
+statusAfter (t ∷ ts) = cond (isGoing (statusOf t)) (statusAfter ts) (statusOf t)
+
+-- One turn, which left this buffer, brings the program from a state to here.
+abbrev pub OneTurn : State → List ℕ → Progress → Type 0
+OneTurn s buffer here = (t : Turn) × (t .buffer ≡ buffer) × (here .status ≡ statusOf t) × (stateOf (here .session) ≡ fed s (pieceOf t) .state)
+
+-- Turns bring it from a state to here. Too many are no fewer than 64 bits can count.
+abbrev pub AllTurns : State → Progress → Type 0
+AllTurns s here =
+    (ts : List Turn) × (here .status ≡ statusAfter ts) × (stateOf (here .session) ≡ fedPieces s (pieces ts) .state)
+    × (here .status ≡ Endless → length ts ≡ 18446744073709551615)
+
+-- The last status: where the input has ended, by the write of what the end prints.
+abbrev pub AtEnd : Status → Status → Type 0
+AtEnd before after = (written : Bool) × (after ≡ cond (isEnded before) (afterWrite before written) before)
+
+-- the sentence on standard error; where nothing has failed there is none
+unfoldable pub sentenceOf : Status → List ℕ
+sentenceOf Unreadable = bytes "script: standard input cannot be read\n"
+sentenceOf Unwritable = bytes "script: standard output cannot be written\n"
+sentenceOf Endless = bytes "script: the input has too many pieces\n"
+sentenceOf Going = []
+sentenceOf Ended = []
