@@ -1,7 +1,7 @@
 -- How a book goes with a table: the same next ticket and open offers, and each outcome of a rendezvous due from its commit to its collection.
 use Prim.Native.Nat.{ℕ}
 use mathlib.Core.Path.{_≡_, refl, sym, _∙_, subst, fun-ext}
-use mathlib.Core.Bool.{Bool, false, cond, true≢false}
+use mathlib.Core.Bool.{false, cond, true≢false}
 use mathlib.Core.List.{List}
 use mathlib.Core.Option.{Option, some, none}
 use lib.ListN.{getD}
@@ -68,6 +68,7 @@ pub record KeptOf (next : ℕ) (v : View) (b : History) : Type 0 where
   pub counts : b .next ≡ next
   pub each : (p : ℕ) → Agrees (listsOf v) b p (v p)
   pub once : Once (b .next) (b .opened) (b .run)
+  -- a fact of the table alone, which goes with the book from call to call
   pub awaited : Awaited v
 
 abbrev pub Kept : ProcessTable → History → Type 0
