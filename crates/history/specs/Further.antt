@@ -1,7 +1,7 @@
--- To be believed. Document 01: cases beside the starred ones, by hand. They hold to what no starred case would notice: the other edges to try, the order and the edges of
--- the refusals, damaged tables, rules 8 and 9, limits, open offers, the run of the marked session.
+-- To be believed. Document 01: cases beside the starred ones. They fix what no starred case would notice: the other edges to try, the order and the edges of the refusals,
+-- damaged tables, rules 8 and 9, limits, open offers, the run of the marked session; and demand 3 at the ends of its range.
 use lib.Ieee.{binary32, ofBits}
-use lib.ListN.{length}
+use lib.ListN.{length, take}
 use Rattle.alternative.specs.Guards.{slots}
 use Rattle.process.specs.declared.Signal.{Signal}
 use Rattle.process.specs.declared.Signal.the-variants.{Absent, Present}
@@ -21,9 +21,9 @@ limit low high = Limit (ofBits binary32 low) (ofBits binary32 high)
 abbrev by-hand : ℕ → Place → Signal → Bool → List Guard → List Guard → Process
 by-hand id place signal accepting own posted = record { place = place; signal = signal; transaction = record { 0 = id }; accepting = accepting; count = length own; altcount = length posted; guards = slots own; altlist = slots posted }
 
--- a table by hand: the number of processes, the next ticket, and the first records
+-- a table by hand: the number of processes, the next ticket, and the first of its 32 records; the others are fresh
 abbrev table : ℕ → ℕ → List Process → ProcessTable
-table n next records = record { n = n; next = record { 0 = next }; processes = records ++ replicate 30 freshProcess }
+table n next records = record { n = n; next = record { 0 = next }; processes = take 32 (records ++ replicate 32 freshProcess) }
 
 -- Two processes: 0 at a place and with a signal, two guards in its own list and none posted; 1 at I, with one guard posted.
 abbrev first : Place → Signal → ProcessTable
@@ -85,7 +85,8 @@ further =
     ∷ case (session (limit 0x40970a3d 0x3f800000)) (sessionSays (limit 0x40970a3d 0x3f800000))
     ∷ []
 
--- An offer copies the list, gives the next ticket and sets E. It leaves the wake count, here 0, the signal and the posted list, which no reached table has at I.
+-- An offer copies the list, gives the next ticket and sets E. It leaves the wake count, the signal and the posted list, here 0, present and not the own list (by the calls
+-- alone no process at I is so).
 abbrev signalled : ℕ → Place → List Guard → Process
 signalled id place own = by-hand id place (Present 0 (reading 0x40970a3d)) true own (receive 1 ∷ receive 1 ∷ [])
 
