@@ -10,11 +10,6 @@ use Rattle.script_main.proofs.Whole.{take-most}
 use Rattle.script_main.proofs.write_end.Statement.{statement}
 use Rattle.script_main.proofs.write_end.Tie as tie
 
-returns : tie.Need-returns
-returns c =
-    let e : isEnded (c .before .before .args .last .status) ≡ false = sym (c .before .has-ended .ensures) ∙ not-true _ (c .if1 .taken) in
-    (true, rw e)
-
 array-share-prefix-bytes : tie.Need-array-share-prefix-bytes
 array-share-prefix-bytes c =
     let h : length (c .before .before .finish .result .bytes) ≡ 64 = search needs in
@@ -34,6 +29,11 @@ write-finished-requires c κs =
       sym (ended .before .has-ended .ensures) ∙ not-false _ (ended .if1 .left),
       rw (c .before .least .ensures, ← h) (take-most (text .result .length) (text .result .bytes) ∙ text .ensures),
     )
+
+returns : tie.Need-returns
+returns c =
+    let e : isEnded (c .before .before .args .last .status) ≡ false = sym (c .before .has-ended .ensures) ∙ not-true _ (c .if1 .taken) in
+    (true, rw e)
 
 returns-2 : tie.Need-returns-2
 returns-2 c =
