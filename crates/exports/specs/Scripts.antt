@@ -9,7 +9,7 @@ use Rattle.script.specs.Feeding as feeding
 use Rattle.wire.specs.Reading.{byte, tableOf}
 use Rattle.exports.specs.Types.{ℕ, _≡_, Bool, true, false, _&&_, cond, List, [], _∷_, _++_, length, take, drop, replicate, leb}
 
--- 7,312 bytes: whether a table was made, how many bytes the begun line has, 201 bytes that it stands at the front of, the table. Any so many bytes are a session: any
+-- 7,312 bytes: whether a table was made, how many bytes the begun line has, 201 bytes that it stands at the front of, the table. Any 7,312 bytes are a session: any
 -- first byte but 0 is true, and a begun line has 201 bytes at most.
 unfoldable pub stateIn : List ℕ → State
 stateIn bytes = record {
