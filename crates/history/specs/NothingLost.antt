@@ -1,5 +1,5 @@
--- To be believed. Nothing committed is lost: after every list of calls from any fresh table, what a commit made due is still due or was collected, and when nothing can
--- move, all that is due can be collected. (The clause on collections of demand 3 speaks of accepted ones alone.)
+-- To be believed. Nothing committed is lost: after every list of calls from any fresh table the book has an outcome due for exactly those processes that the table shows to
+-- have one, and when nothing can move, all that is due can be collected. (The clause on collections of demand 3 speaks of accepted ones alone.)
 use Rattle.process.specs.Process.{isAt, ownGuard}
 use Rattle.rendezvous.specs.Table.{mostProcesses, process, freshTable}
 use Rattle.rendezvous.specs.Calls.{Quiescent}

@@ -1,5 +1,6 @@
--- To be believed. What the program makes of what the operating system answers. Of `read` and `write` the contracts of libc say how many bytes they moved, and nothing of which
--- bytes those were. So a turn of the program's loop is what the system answered in it, and the definitions say, for all answers, how the program goes on.
+-- To be believed. What the program makes of what the operating system answers. Of `read` and `write` the language's contracts say how many bytes they moved, and nothing
+-- of which bytes those were. So a turn of the program's loop is what the system answered in it, and the definitions say how the program goes on. The contracts say that
+-- some turns explain where the program stands: that they are those it had is to be read in main.rt.
 use Prim.Native.Nat.{ℕ, zero, suc}
 use mathlib.Core.Path.{_≡_}
 use mathlib.Core.Bool.{Bool, true, false, cond}
