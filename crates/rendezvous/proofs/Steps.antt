@@ -7,11 +7,11 @@ use native.Mathlib.Omega.{arith}
 use borrow.Author.Tests.{lt-ltb}
 use Rattle.process.specs.Rules.{rule, partnerOf, changes}
 use Rattle.process.proofs.Kept.{partner-below}
-use Rattle.rendezvous.specs.Types.{ProcessTable, Refusal, Verdict, Accepted, Answer}
+use Rattle.rendezvous.specs.Types.{ProcessTable, Accepted}
 use Rattle.rendezvous.specs.Table.{process}
 use Rattle.rendezvous.specs.WellFormed.{fitsAt, wellFormed}
 use Rattle.rendezvous.specs.Refusals.{processVerdict}
-use Rattle.rendezvous.specs.Calls.{effectOn, step}
+use Rattle.rendezvous.specs.Calls.{effectOn}
 use Rattle.rendezvous.proofs.Forms.{formed-most, formed-fits}
 use Rattle.rendezvous.proofs.Verdicts.{process-passed}
 
@@ -32,10 +32,6 @@ inside t p e =
     let c : p < 32 = omega (arith, a .below, m) in
     let d : partnerOf (process t p) < 32 = omega (arith, b, m) in
     record { own = mod-eq-of-lt c; partner = mod-eq-of-lt d }
-
-pub step-refused : (t : ProcessTable) (p : ℕ) (r : Refusal) → processVerdict t p ≡ Verdict.Refused r → record { answer = Answer.Refused r; table = t } ≡ step t p
-unfolding step
-step-refused t p r e = rw e
 
 pub process-accepted : (t : ProcessTable) (p : ℕ) → wellFormed t ≡ true → p < t .n → processVerdict t p ≡ Accepted
 unfolding processVerdict
