@@ -1,7 +1,7 @@
 /* ./run --trace: tells, for each rendezvous of the script on standard input, which way its message went, station by station, and at the
    end which offers have not met, which outcomes are not collected, and which lines were refused.
    The script goes to the proved library a line at a time. What a station shows is read out of the table's own bytes, as they stood
-   just before and just after that line, and at a collection out of what the line printed; the forms are those of rendezvous.h.
+   just before and just after that line, and at a collection out of what the line printed; rendezvous.h says what stands where.
    Each station is held against the guards as the script wrote them; between stations, no line may change what a record holds of them. */
 #include "rendezvous.h"
 #include <stdarg.h>
@@ -9,16 +9,11 @@
 #include <stdlib.h>
 #include <string.h>
 
-/* Where a session has its records, and what a record, a guard and a message have where (docs/BYTES.md). */
-enum { PROCESSES = 32, GUARDS = 8, FIRST_RECORD = RENDEZVOUS_SESSION - RENDEZVOUS_TABLE + 5, RECORD = 222 };
-enum { PLACE = 0, INDEX = 1, KEPT = 2, OUTCOME = 3, SIGNAL = 12, SIGNAL_MESSAGE = 14, TICKET = 23, ACCEPTING = 27, OWN = 30, POSTED = 126 };
-enum { ENABLED = 0, PARTNER = 1, SENDS = 2, MESSAGE = 3 };
-enum { KIND = 0, VALUE = 1, HIGH = 5 };
 /* A line that is taken has at most 200 bytes, so it is one piece. */
 enum { PIECE = 256 };
 /* Both offer; the waiter posts, opens, waits; one commits and signals, one absorbs; both collect. */
 enum { STATIONS = 10 };
-/* So many rendezvous wait for an older one to be told. At most PROCESSES of them have a collection due. */
+/* So many rendezvous wait for an older one to be told. At most RENDEZVOUS_PROCESSES of them have a collection due. */
 enum { STORIES = 256 };
 
 /* A message or guard as a script writes it, a message perhaps with its decimals: the longest is a limit with both. */
@@ -44,7 +39,7 @@ typedef struct {
 enum { OFFERS, POSTS, OPENS, WAITS, ALONE };
 typedef struct {
     unsigned long line;
-    uint8_t record[RECORD];
+    uint8_t record[RENDEZVOUS_RECORD_BYTES];
 } Seen;
 
 typedef struct {
@@ -56,10 +51,10 @@ typedef struct {
     Text due;                     /* and what it will collect */
 } Process;
 
-static uint8_t before[RENDEZVOUS_SESSION], after[RENDEZVOUS_SESSION];
-static char piece[PIECE + 1], printed[PIECE * RENDEZVOUS_LINE + 1];
+static uint8_t before[RENDEZVOUS_SESSION_BYTES], after[RENDEZVOUS_SESSION_BYTES];
+static char piece[PIECE + 1], printed[PIECE * RENDEZVOUS_LINE_BYTES + 1];
 static unsigned long line;
-static Process processes[PROCESSES];
+static Process processes[RENDEZVOUS_PROCESSES];
 static Story stories[STORIES];
 static size_t held;
 static unsigned long rendezvous;
@@ -72,7 +67,12 @@ static _Noreturn void fail(const char *what) {
     exit(2);
 }
 
-static const uint8_t *record(const uint8_t *session, unsigned p) { return session + FIRST_RECORD + RECORD * p; }
+static const uint8_t *record(const uint8_t *session, unsigned p) {
+    return session + RENDEZVOUS_SESSION_TABLE + RENDEZVOUS_HEAD_BYTES + RENDEZVOUS_RECORD_BYTES * p;
+}
+
+/* Guard i of a record's list. */
+static const uint8_t *guard_at(const uint8_t *process, unsigned list, unsigned i) { return process + list + RENDEZVOUS_GUARD_BYTES * i; }
 
 static uint32_t word(const uint8_t *bytes) {
     return bytes[0] | (uint32_t)bytes[1] << 8 | (uint32_t)bytes[2] << 16 | (uint32_t)bytes[3] << 24;
@@ -80,23 +80,33 @@ static uint32_t word(const uint8_t *bytes) {
 
 static Text message_in(const uint8_t *bytes) {
     Text m = {"0"};
-    unsigned long value = word(bytes + VALUE), high = word(bytes + HIGH);
-    if (bytes[KIND] == 1) snprintf(m.text, sizeof m.text, "w%ld", (long)(int32_t)value);
-    if (bytes[KIND] == 2) snprintf(m.text, sizeof m.text, "r%08lx", value);
-    if (bytes[KIND] == 3) snprintf(m.text, sizeof m.text, "l%08lx%08lx", value, high);
-    if (bytes[KIND] > 3) snprintf(m.text, sizeof m.text, "kind %u", bytes[KIND]);
+    unsigned kind = bytes[RENDEZVOUS_MESSAGE_KIND];
+    unsigned long first = word(bytes + RENDEZVOUS_MESSAGE_FIRST), second = word(bytes + RENDEZVOUS_MESSAGE_SECOND);
+    if (kind == 1) snprintf(m.text, sizeof m.text, "w%ld", (long)(int32_t)first);
+    if (kind == 2) snprintf(m.text, sizeof m.text, "r%08lx", first);
+    if (kind == 3) snprintf(m.text, sizeof m.text, "l%08lx%08lx", first, second);
+    if (kind > 3) snprintf(m.text, sizeof m.text, "kind %u", kind);
     return m;
 }
 
-/* Guard i of the own or the posted list of a record. */
 static Text guard_in(const uint8_t *process, unsigned list, unsigned i) {
-    const uint8_t *bytes = process + list + RENDEZVOUS_GUARD * i;
-    Text g, message = bytes[SENDS] ? message_in(bytes + MESSAGE) : (Text){""};
-    snprintf(g.text, sizeof g.text, "%s%u%s%.20s", bytes[ENABLED] ? "" : "-", bytes[PARTNER], bytes[SENDS] ? "!" : "?", message.text);
+    const uint8_t *bytes = guard_at(process, list, i);
+    bool sends = bytes[RENDEZVOUS_GUARD_SENDS];
+    Text g, message = sends ? message_in(bytes + RENDEZVOUS_GUARD_MESSAGE) : (Text){""};
+    snprintf(g.text, sizeof g.text, "%s%u%s%.20s", bytes[RENDEZVOUS_GUARD_ENABLED] ? "" : "-", bytes[RENDEZVOUS_GUARD_PARTNER], sends ? "!" : "?",
+             message.text);
     return g;
 }
 
-static Text signal_in(const uint8_t *process) { return process[SIGNAL] ? message_in(process + SIGNAL_MESSAGE) : (Text){"no signal"}; }
+static Text signal_in(const uint8_t *process) {
+    return process[RENDEZVOUS_RECORD_SIGNAL] ? message_in(process + RENDEZVOUS_RECORD_SIGNAL_MESSAGE) : (Text){"no signal"};
+}
+
+static Text outcome_in(const uint8_t *process) { return message_in(process + RENDEZVOUS_RECORD_OUTCOME); }
+
+static unsigned long ticket_in(const uint8_t *process) { return word(process + RENDEZVOUS_RECORD_TICKET); }
+
+static int wake_count_in(const uint8_t *process) { return !process[RENDEZVOUS_RECORD_ACCEPTING]; }
 
 /* Guard i as the script's line of an offer, `o P G..`, writes it. */
 static Text guard_written(const char *offer, unsigned i) {
@@ -195,15 +205,15 @@ static Story *story_of(unsigned p) {
 static void add_seen(Story *story, unsigned p, unsigned what) {
     const Seen *seen = &processes[p].seen[what];
     unsigned i = processes[p].guard;
-    Text guard = guard_in(seen->record, what == OFFERS ? OWN : POSTED, i);
+    Text guard = guard_in(seen->record, what == OFFERS ? RENDEZVOUS_RECORD_OWN : RENDEZVOUS_RECORD_POSTED, i);
     Station *station;
     if (seen->line == 0) return;
     if (what == OFFERS)
-        station = add(story, seen->line, "process %u offers %s as guard %u, ticket %lu", p, guard.text, i, (unsigned long)word(seen->record + TICKET));
+        station = add(story, seen->line, "process %u offers %s as guard %u, ticket %lu", p, guard.text, i, ticket_in(seen->record));
     else if (what == POSTS)
         station = add(story, seen->line, "process %u posts its list, with %s as guard %u", p, guard.text, i);
     else if (what == OPENS)
-        station = add(story, seen->line, "process %u sets its wake count to %d, with %s as posted guard %u", p, !seen->record[ACCEPTING], guard.text, i);
+        station = add(story, seen->line, "process %u sets its wake count to %d, with %s as posted guard %u", p, wake_count_in(seen->record), guard.text, i);
     else
         station = add(story, seen->line, "process %u waits, with %s as posted guard %u", p, guard.text, i);
     want(station, guard, guard_written(processes[p].offer, i));
@@ -213,7 +223,7 @@ static void add_seen(Story *story, unsigned p, unsigned what) {
 static void see(unsigned p, unsigned what) {
     Seen *seen = &processes[p].seen[what];
     seen->line = line;
-    memcpy(seen->record, record(after, p), RECORD);
+    memcpy(seen->record, record(after, p), sizeof seen->record);
 }
 
 static void offers(unsigned p) {
@@ -235,19 +245,20 @@ static void join(Story *story, unsigned p, unsigned i) {
 
 static void commits(unsigned p) {
     const uint8_t *own = record(after, p);
-    unsigned i = own[INDEX], j = own[KEPT];
-    if (i >= GUARDS || j >= GUARDS) fail("a commit names no guard");
-    unsigned q = own[OWN + RENDEZVOUS_GUARD * i + PARTNER];
-    bool sends = own[OWN + RENDEZVOUS_GUARD * i + SENDS];
-    if (q >= PROCESSES) fail("a commit names no process");
+    unsigned i = own[RENDEZVOUS_RECORD_INDEX], j = own[RENDEZVOUS_RECORD_KEPT];
+    if (i >= RENDEZVOUS_GUARDS || j >= RENDEZVOUS_GUARDS) fail("a commit names no guard");
+    const uint8_t *guard = guard_at(own, RENDEZVOUS_RECORD_OWN, i);
+    unsigned q = guard[RENDEZVOUS_GUARD_PARTNER];
+    bool sends = guard[RENDEZVOUS_GUARD_SENDS];
+    if (q >= RENDEZVOUS_PROCESSES) fail("a commit names no process");
     const uint8_t *partner = record(after, q);
-    Text mine = guard_in(own, OWN, i), kept = guard_in(partner, POSTED, j);
+    Text mine = guard_in(own, RENDEZVOUS_RECORD_OWN, i), kept = guard_in(partner, RENDEZVOUS_RECORD_POSTED, j);
     Text wanted = guard_written(processes[p].offer, i), partners = guard_written(processes[q].offer, j);
     Story *story = begin(sends ? p : q, sends ? q : p, message_written(sends ? wanted : partners));
     join(story, q, j);
     join(story, p, i);
     Station *station = add(story, line, "process %u commits at its guard %u (%s) to posted guard %u of process %u (%s), whose wake count becomes %d", p, i,
-                           mine.text, j, q, kept.text, !partner[ACCEPTING]);
+                           mine.text, j, q, kept.text, wake_count_in(partner));
     want(station, mine, wanted);
     want(station, kept, partners);
 }
@@ -255,7 +266,7 @@ static void commits(unsigned p) {
 static void signals(unsigned p) {
     Story *story = story_of(p);
     unsigned q = story->from == p ? story->to : story->from;
-    Text kept = message_in(record(after, p) + OUTCOME), signal = signal_in(record(after, q));
+    Text kept = outcome_in(record(after, p)), signal = signal_in(record(after, q));
     Station *station = story->from == p
         ? add(story, line, "process %u signals process %u with %s, and keeps %s", p, q, named(signal).text, named(kept).text)
         : add(story, line, "process %u takes %s from the posted list of process %u, and signals it with %s", p, named(kept).text, q, named(signal).text);
@@ -265,7 +276,7 @@ static void signals(unsigned p) {
 
 static void absorbs(unsigned p) {
     Story *story = story_of(p);
-    Text signal = signal_in(record(before, p)), kept = message_in(record(after, p) + OUTCOME);
+    Text signal = signal_in(record(before, p)), kept = outcome_in(record(after, p));
     Station *station = add(story, line, "process %u absorbs the signal with %s, and keeps %s", p, named(signal).text, named(kept).text);
     want(station, signal, due(story, p));
     want(station, kept, due(story, p));
@@ -295,7 +306,7 @@ static const struct {
              {'T', 'C', commits}, {'C', 'M', signals}, {'W', 'M', absorbs}, {'M', 'I', collects}};
 
 static char place(const uint8_t *session, unsigned p) {
-    uint8_t at = record(session, p)[PLACE];
+    uint8_t at = record(session, p)[RENDEZVOUS_RECORD_PLACE];
     if (at > 10) fail("a process is at no place");
     return "IEATCPOHSWM"[at];
 }
@@ -307,9 +318,9 @@ static void tell_left(const uint8_t *session, unsigned p) {
     if (process->story > 0)
         printf("  not collected: %s for process %u of rendezvous %lu", readable(process->due).text, p, process->story);
     else
-        printf("  not met: the offer of process %u at line %lu, ticket %lu", p, process->seen[OFFERS].line, (unsigned long)word(record(session, p) + TICKET));
+        printf("  not met: the offer of process %u at line %lu, ticket %lu", p, process->seen[OFFERS].line, ticket_in(record(session, p)));
     printf(" (at %c", at);
-    if (strchr("ATC", at)) printf("%u", record(session, p)[INDEX]);
+    if (strchr("ATC", at)) printf("%u", record(session, p)[RENDEZVOUS_RECORD_INDEX]);
     printf(" since line %lu, ", process->moved);
     if (process->stepped > 0)
         printf("last step at line %lu)\n", process->stepped);
@@ -320,7 +331,7 @@ static void tell_left(const uint8_t *session, unsigned p) {
 /* What is left of a table where it ends, under a heading. Gives whether anything is. */
 static bool tell_all_left(const uint8_t *session, Text heading) {
     bool any = false;
-    for (unsigned p = 0; p < PROCESSES; p++) {
+    for (unsigned p = 0; p < RENDEZVOUS_PROCESSES; p++) {
         if (place(session, p) == 'I') continue;
         if (!any) puts(heading.text);
         tell_left(session, p);
@@ -329,13 +340,15 @@ static bool tell_all_left(const uint8_t *session, Text heading) {
     return any;
 }
 
+/* Whether the line changed the bytes of process p from one part of its record up to another. */
+static bool changed(unsigned p, size_t start, size_t end) { return memcmp(record(before, p) + start, record(after, p) + start, end - start) != 0; }
+
 /* Lists change where their process offers or posts, an outcome where it moves, a signal where there was none or it moves. */
 static void see_stray(unsigned p, char from, char to) {
-    const uint8_t *old = record(before, p), *new = record(after, p);
     bool writes = from != to && (to == 'E' || to == 'O');
-    bool lists = !writes && memcmp(old + OWN, new + OWN, RECORD - OWN) != 0;
-    bool outcome = from == to && memcmp(old + OUTCOME, new + OUTCOME, SIGNAL - OUTCOME) != 0;
-    bool signal = from == to && old[SIGNAL] && memcmp(old + SIGNAL, new + SIGNAL, TICKET - SIGNAL) != 0;
+    bool lists = !writes && changed(p, RENDEZVOUS_RECORD_OWN, RENDEZVOUS_RECORD_BYTES);
+    bool outcome = from == to && changed(p, RENDEZVOUS_RECORD_OUTCOME, RENDEZVOUS_RECORD_SIGNAL);
+    bool signal = from == to && record(before, p)[RENDEZVOUS_RECORD_SIGNAL] && changed(p, RENDEZVOUS_RECORD_SIGNAL, RENDEZVOUS_RECORD_TICKET);
     if (!lists && !outcome && !signal) return;
     printf("line %lu changes the %s of process %u against the rules\n", line, lists ? "lists" : outcome ? "outcome" : "signal", p);
     differs = true;
@@ -343,12 +356,11 @@ static void see_stray(unsigned p, char from, char to) {
 
 /* What the line did to process p. */
 static void look_at(unsigned p) {
-    const uint8_t *old = record(before, p), *new = record(after, p);
     char from = place(before, p), to = place(after, p);
     see_stray(p, from, to);
     for (size_t k = 0; from != to && k < sizeof moves / sizeof moves[0]; k++)
         if (from == moves[k].from && to == moves[k].to) moves[k].station(p);
-    if (from != to || old[INDEX] != new[INDEX]) processes[p].moved = line;
+    if (from != to || changed(p, RENDEZVOUS_RECORD_INDEX, RENDEZVOUS_RECORD_KEPT)) processes[p].moved = line;
 }
 
 /* The old table ends, and with it every story. */
@@ -375,8 +387,8 @@ static void look(void) {
         return;
     }
     if (printed[0] == 'x') refuse();
-    for (unsigned p = 0; p < PROCESSES; p++) look_at(p);
-    if (sscanf(printed, "s %u", &stepped) == 1 && stepped < PROCESSES) processes[stepped].stepped = line;
+    for (unsigned p = 0; p < RENDEZVOUS_PROCESSES; p++) look_at(p);
+    if (sscanf(printed, "s %u", &stepped) == 1 && stepped < RENDEZVOUS_PROCESSES) processes[stepped].stepped = line;
 }
 
 /* Reads up to the end of a line, or as much of it as a piece has. */

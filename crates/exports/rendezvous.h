@@ -1,9 +1,9 @@
 /* The proved library for C: the calls on a process table and the script program, on lent bytes. A program includes this file and links
    libexports.a. Every function is proved for all arguments; what each gives is defined in crates/wire/specs and crates/exports/specs.
 
-   docs/BYTES.md has the forms of a table, a guard, an answer and a session. Any RENDEZVOUS_TABLE bytes are read as a table. A refused
-   call writes the table that it read, in this form: the same bytes if they were in this form, else the same table with such bytes
-   replaced (a NaN's payload, a tag past the last, a flag other than 0 and 1, anything but 0 in unused bytes).
+   docs/BYTES.md has the bytes of a table, a guard, an answer and a session. Any bytes, RENDEZVOUS_TABLE_BYTES of them, are a table. A
+   refused call writes the table that it read: the same bytes, but for such as no call writes (a NaN's payload, a tag past the last,
+   a flag other than 0 and 1, anything but 0 in unused bytes), which are replaced.
 
    `out` takes the table that a call hands back and `answer` the answer, each at its front. If one of `table`, `out` and `answer` is
    too short, the call does nothing: no buffer changes, and it returns false.
@@ -22,16 +22,58 @@
 #include <stddef.h>
 #include <stdint.h>
 
-#define RENDEZVOUS_TABLE 7109
-#define RENDEZVOUS_ANSWER 16
-#define RENDEZVOUS_GUARD 12
-#define RENDEZVOUS_SESSION 7312
-#define RENDEZVOUS_LINE 64 /* no line of a script prints more bytes */
+/* Lengths and offsets, in bytes (docs/BYTES.md). A name without BYTES tells where a part stands in what the name begins with. */
+#define RENDEZVOUS_PROCESSES 32 /* the records of a table */
+#define RENDEZVOUS_GUARDS 8     /* the slots of a list of guards */
+#define RENDEZVOUS_WORD_BYTES 4
+
+#define RENDEZVOUS_MESSAGE_KIND 0
+#define RENDEZVOUS_MESSAGE_FIRST 1
+#define RENDEZVOUS_MESSAGE_SECOND (RENDEZVOUS_MESSAGE_FIRST + RENDEZVOUS_WORD_BYTES)
+#define RENDEZVOUS_MESSAGE_BYTES (RENDEZVOUS_MESSAGE_SECOND + RENDEZVOUS_WORD_BYTES)
+
+#define RENDEZVOUS_GUARD_ENABLED 0
+#define RENDEZVOUS_GUARD_PARTNER 1
+#define RENDEZVOUS_GUARD_SENDS 2
+#define RENDEZVOUS_GUARD_MESSAGE 3
+#define RENDEZVOUS_GUARD_BYTES (RENDEZVOUS_GUARD_MESSAGE + RENDEZVOUS_MESSAGE_BYTES)
+#define RENDEZVOUS_LIST_BYTES (RENDEZVOUS_GUARDS * RENDEZVOUS_GUARD_BYTES)
+
+#define RENDEZVOUS_RECORD_PLACE 0
+#define RENDEZVOUS_RECORD_INDEX 1
+#define RENDEZVOUS_RECORD_KEPT 2
+#define RENDEZVOUS_RECORD_OUTCOME 3
+#define RENDEZVOUS_RECORD_SIGNAL (RENDEZVOUS_RECORD_OUTCOME + RENDEZVOUS_MESSAGE_BYTES)
+#define RENDEZVOUS_RECORD_SIGNAL_MESSAGE (RENDEZVOUS_RECORD_SIGNAL + 2)
+#define RENDEZVOUS_RECORD_TICKET (RENDEZVOUS_RECORD_SIGNAL_MESSAGE + RENDEZVOUS_MESSAGE_BYTES)
+#define RENDEZVOUS_RECORD_ACCEPTING (RENDEZVOUS_RECORD_TICKET + RENDEZVOUS_WORD_BYTES)
+#define RENDEZVOUS_RECORD_COUNTS (RENDEZVOUS_RECORD_ACCEPTING + 1)
+#define RENDEZVOUS_RECORD_OWN (RENDEZVOUS_RECORD_COUNTS + 2)
+#define RENDEZVOUS_RECORD_POSTED (RENDEZVOUS_RECORD_OWN + RENDEZVOUS_LIST_BYTES)
+#define RENDEZVOUS_RECORD_BYTES (RENDEZVOUS_RECORD_POSTED + RENDEZVOUS_LIST_BYTES)
+
+#define RENDEZVOUS_HEAD_COUNT 0
+#define RENDEZVOUS_HEAD_NEXT 1
+#define RENDEZVOUS_HEAD_BYTES (RENDEZVOUS_HEAD_NEXT + RENDEZVOUS_WORD_BYTES)
+#define RENDEZVOUS_TABLE_BYTES (RENDEZVOUS_HEAD_BYTES + RENDEZVOUS_PROCESSES * RENDEZVOUS_RECORD_BYTES)
+
+#define RENDEZVOUS_ANSWER_KIND 0
+#define RENDEZVOUS_ANSWER_FIRST 1
+#define RENDEZVOUS_ANSWER_SECOND 2
+#define RENDEZVOUS_ANSWER_MESSAGE 3
+#define RENDEZVOUS_ANSWER_WORD (RENDEZVOUS_ANSWER_MESSAGE + RENDEZVOUS_MESSAGE_BYTES)
+#define RENDEZVOUS_ANSWER_BYTES (RENDEZVOUS_ANSWER_WORD + RENDEZVOUS_WORD_BYTES)
+
+#define RENDEZVOUS_BEGUN_BYTES 201 /* for a begun line: one more than a line may have */
+#define RENDEZVOUS_SESSION_BEGUN 2
+#define RENDEZVOUS_SESSION_TABLE (RENDEZVOUS_SESSION_BEGUN + RENDEZVOUS_BEGUN_BYTES)
+#define RENDEZVOUS_SESSION_BYTES (RENDEZVOUS_SESSION_TABLE + RENDEZVOUS_TABLE_BYTES)
+#define RENDEZVOUS_LINE_BYTES 64 /* no line of a script prints more */
 
 /* A fresh table of n processes. */
 bool rendezvous_create(uint8_t n, uint8_t *out, size_t out_length, uint8_t *answer, size_t answer_length);
 
-/* An offer by process p; `guards` has RENDEZVOUS_GUARD bytes for each guard, of any number of them. */
+/* An offer by process p; `guards` has RENDEZVOUS_GUARD_BYTES for each guard, of any number of them. */
 bool rendezvous_offer(const uint8_t *table, size_t table_length, uint8_t p, const uint8_t *guards, size_t guards_length, uint8_t *out,
                       size_t out_length, uint8_t *answer, size_t answer_length);
 
@@ -51,14 +93,14 @@ bool rendezvous_runnable(const uint8_t *table, size_t table_length, uint8_t *out
 bool rendezvous_script_start(uint8_t *state, size_t state_length);
 
 /* Feeds a piece of the input to a session. As many bytes of the piece are taken as `out` has room for if each of them ends a line: the
-   least of piece_length and out_length / RENDEZVOUS_LINE. `taken` is set to how many that is; feed the rest next. What they print goes
-   to the front of `out`, and `filled` is set to how many bytes that is. `after` takes the session after them. If `state` or `after`
-   has less than RENDEZVOUS_SESSION bytes, no buffer changes, `taken` and `filled` are set to 0, and the call returns false. */
+   least of piece_length and out_length / RENDEZVOUS_LINE_BYTES. `taken` is set to how many that is; feed the rest next. What they print
+   goes to the front of `out`, and `filled` is set to how many bytes that is. `after` takes the session after them. If `state` or
+   `after` has less than RENDEZVOUS_SESSION_BYTES, no buffer changes, `taken` and `filled` are set to 0, and the call returns false. */
 bool rendezvous_script_feed(const uint8_t *state, size_t state_length, const uint8_t *piece, size_t piece_length, uint8_t *after,
                             size_t after_length, uint8_t *out, size_t out_length, size_t *taken, size_t *filled);
 
 /* What the end of the input prints, to the front of `out`, and how many bytes that is: an unended last line is malformed. If `out` has
-   less than RENDEZVOUS_LINE bytes, or `state` less than RENDEZVOUS_SESSION, `out` stays as it is and the call returns 0. */
+   less than RENDEZVOUS_LINE_BYTES, or `state` less than RENDEZVOUS_SESSION_BYTES, `out` stays as it is and the call returns 0. */
 size_t rendezvous_script_finish(const uint8_t *state, size_t state_length, uint8_t *out, size_t out_length);
 
 /* For tests of an f32's bits, a NaN's too: it is handed back by way of a message that a table holds in a refused offer, in steps that post

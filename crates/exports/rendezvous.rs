@@ -4,7 +4,7 @@
 //! library's, which is proved for all of them; what it gives is defined in crates/wire/specs and
 //! crates/exports/specs.
 //!
-//! docs/BYTES.md has the forms of a table, a guard, an answer and a session.
+//! docs/BYTES.md has the bytes of a table, a guard, an answer and a session.
 //!
 //! `out` takes the table that a call hands back and `answer` the answer, each at its front. If one
 //! of `table`, `out` and `answer` is too short, the call does nothing: no buffer changes, and it
@@ -20,12 +20,59 @@
 // A program calls only what it needs.
 #![allow(dead_code)]
 
-pub const TABLE: usize = 7109;
-pub const ANSWER: usize = 16;
-pub const GUARD: usize = 12;
-pub const SESSION: usize = 7312;
-/// No line of a script prints more bytes.
-pub const LINE: usize = 64;
+// Lengths and offsets, in bytes (docs/BYTES.md), as rendezvous.h has them. A name without BYTES
+// tells where a part stands in what the name begins with.
+
+/// The records of a table.
+pub const PROCESSES: usize = 32;
+/// The slots of a list of guards.
+pub const GUARDS: usize = 8;
+pub const WORD_BYTES: usize = 4;
+
+pub const MESSAGE_KIND: usize = 0;
+pub const MESSAGE_FIRST: usize = 1;
+pub const MESSAGE_SECOND: usize = MESSAGE_FIRST + WORD_BYTES;
+pub const MESSAGE_BYTES: usize = MESSAGE_SECOND + WORD_BYTES;
+
+pub const GUARD_ENABLED: usize = 0;
+pub const GUARD_PARTNER: usize = 1;
+pub const GUARD_SENDS: usize = 2;
+pub const GUARD_MESSAGE: usize = 3;
+pub const GUARD_BYTES: usize = GUARD_MESSAGE + MESSAGE_BYTES;
+pub const LIST_BYTES: usize = GUARDS * GUARD_BYTES;
+
+pub const RECORD_PLACE: usize = 0;
+pub const RECORD_INDEX: usize = 1;
+pub const RECORD_KEPT: usize = 2;
+pub const RECORD_OUTCOME: usize = 3;
+pub const RECORD_SIGNAL: usize = RECORD_OUTCOME + MESSAGE_BYTES;
+pub const RECORD_SIGNAL_MESSAGE: usize = RECORD_SIGNAL + 2;
+pub const RECORD_TICKET: usize = RECORD_SIGNAL_MESSAGE + MESSAGE_BYTES;
+pub const RECORD_ACCEPTING: usize = RECORD_TICKET + WORD_BYTES;
+pub const RECORD_COUNTS: usize = RECORD_ACCEPTING + 1;
+pub const RECORD_OWN: usize = RECORD_COUNTS + 2;
+pub const RECORD_POSTED: usize = RECORD_OWN + LIST_BYTES;
+pub const RECORD_BYTES: usize = RECORD_POSTED + LIST_BYTES;
+
+pub const HEAD_COUNT: usize = 0;
+pub const HEAD_NEXT: usize = 1;
+pub const HEAD_BYTES: usize = HEAD_NEXT + WORD_BYTES;
+pub const TABLE_BYTES: usize = HEAD_BYTES + PROCESSES * RECORD_BYTES;
+
+pub const ANSWER_KIND: usize = 0;
+pub const ANSWER_FIRST: usize = 1;
+pub const ANSWER_SECOND: usize = 2;
+pub const ANSWER_MESSAGE: usize = 3;
+pub const ANSWER_WORD: usize = ANSWER_MESSAGE + MESSAGE_BYTES;
+pub const ANSWER_BYTES: usize = ANSWER_WORD + WORD_BYTES;
+
+/// For a begun line: one more than a line may have.
+pub const BEGUN_BYTES: usize = 201;
+pub const SESSION_BEGUN: usize = 2;
+pub const SESSION_TABLE: usize = SESSION_BEGUN + BEGUN_BYTES;
+pub const SESSION_BYTES: usize = SESSION_TABLE + TABLE_BYTES;
+/// No line of a script prints more.
+pub const LINE_BYTES: usize = 64;
 
 // SAFETY, for every call below: the library reads and writes nothing but the slices that it is
 // lent, whatever their bytes and lengths, and a slice lent as `&mut` overlaps no other.
@@ -44,7 +91,7 @@ pub fn create(n: u8, out: &mut [u8], answer: &mut [u8]) -> bool {
     }
 }
 
-/// An offer by process `p`; `guards` has `GUARD` bytes for each guard, of any number of them.
+/// An offer by process `p`; `guards` has `GUARD_BYTES` for each guard, of any number of them.
 #[must_use]
 pub fn offer(table: &[u8], p: u8, guards: &[u8], out: &mut [u8], answer: &mut [u8]) -> bool {
     unsafe {
@@ -116,7 +163,7 @@ pub fn script_start(state: &mut [u8]) -> bool {
 }
 
 /// Feeds a piece of the input to a session. As many bytes of the piece are taken as `out` has room
-/// for if each of them ends a line: the least of `piece.len()` and `out.len() / LINE`; feed the
+/// for if each of them ends a line: the least of `piece.len()` and `out.len() / LINE_BYTES`; feed the
 /// rest next. What they print goes to the front of `out`, and `after` takes the session after
 /// them. Gives how many bytes were taken and how many printed; none, with no buffer changed, if
 /// `state` or `after` is too short.
@@ -146,8 +193,8 @@ pub fn script_feed(
 }
 
 /// What the end of the input prints, to the front of `out`, and how many bytes that is. If `out`
-/// has less than `LINE` bytes, or `state` less than `SESSION`, `out` stays as it is and the call
-/// returns 0.
+/// has less than `LINE_BYTES`, or `state` less than `SESSION_BYTES`, `out` stays as it is and the
+/// call returns 0.
 #[must_use]
 pub fn script_finish(state: &[u8], out: &mut [u8]) -> usize {
     unsafe { rendezvous_script_finish(state.as_ptr(), state.len(), out.as_mut_ptr(), out.len()) }

@@ -13,43 +13,44 @@
 #include <stdlib.h>
 #include <string.h>
 
-/* What a guard, a message and an answer have where (docs/BYTES.md). */
-enum { ENABLED = 0, PARTNER = 1, SENDS = 2, MESSAGE = 3 };
-enum { KIND = 0, VALUE = 1, HIGH = 5 };
-enum { FIRST = 1, SECOND = 2, COLLECTED_MESSAGE = 3, NUMBER = 12 };
+/* Kinds of messages and of answers (docs/BYTES.md). */
+enum { NOTHING, WHOLE, READING, LIMIT };
 enum { MADE, OFFERED, MOVED, UNCHANGED, COLLECTED, RUNNABLE, REFUSED };
 
-static uint8_t table[RENDEZVOUS_TABLE], after[RENDEZVOUS_TABLE], answer[RENDEZVOUS_ANSWER];
+static uint8_t table[RENDEZVOUS_TABLE_BYTES], after[RENDEZVOUS_TABLE_BYTES], answer[RENDEZVOUS_ANSWER_BYTES];
 static FILE *script;
 
 static unsigned long word(const uint8_t *bytes) { return bytes[0] | bytes[1] << 8 | bytes[2] << 16 | (unsigned long)bytes[3] << 24; }
 
 static void write_message(FILE *to, const uint8_t *message) {
-    unsigned long value = word(message + VALUE);
-    if (message[KIND] == 0) fprintf(to, "0");
-    if (message[KIND] == 1) fprintf(to, "w%ld", (long)(int32_t)value);
-    if (message[KIND] == 2) fprintf(to, "r%08lx", value);
-    if (message[KIND] > 2) fprintf(to, "l%08lx%08lx", value, word(message + HIGH));
+    unsigned kind = message[RENDEZVOUS_MESSAGE_KIND];
+    unsigned long first = word(message + RENDEZVOUS_MESSAGE_FIRST), second = word(message + RENDEZVOUS_MESSAGE_SECOND);
+    if (kind == NOTHING) fprintf(to, "0");
+    if (kind == WHOLE) fprintf(to, "w%ld", (long)(int32_t)first);
+    if (kind == READING) fprintf(to, "r%08lx", first);
+    if (kind == LIMIT) fprintf(to, "l%08lx%08lx", first, second);
 }
 
 static void write_guard(FILE *to, const uint8_t *guard) {
-    fprintf(to, " %s%u%c", guard[ENABLED] ? "" : "-", guard[PARTNER], guard[SENDS] ? '!' : '?');
-    if (guard[SENDS]) write_message(to, guard + MESSAGE);
+    bool sends = guard[RENDEZVOUS_GUARD_SENDS];
+    fprintf(to, " %s%u%c", guard[RENDEZVOUS_GUARD_ENABLED] ? "" : "-", guard[RENDEZVOUS_GUARD_PARTNER], sends ? '!' : '?');
+    if (sends) write_message(to, guard + RENDEZVOUS_GUARD_MESSAGE);
 }
 
 /* What a call answered, as the script program prints it. */
 static void print_answer(const char *call) {
-    if (answer[KIND] == REFUSED)
-        printf("x %u", answer[FIRST]);
+    unsigned kind = answer[RENDEZVOUS_ANSWER_KIND], first = answer[RENDEZVOUS_ANSWER_FIRST], second = answer[RENDEZVOUS_ANSWER_SECOND];
+    if (kind == REFUSED)
+        printf("x %u", first);
     else
         printf("%s", call);
-    if (answer[KIND] == OFFERED) printf(" t%lu", word(answer + NUMBER));
-    if (answer[KIND] == MOVED) printf(" %c", answer[FIRST]);
-    if (answer[KIND] == MOVED && strchr("ATC", answer[FIRST])) printf("%u", answer[SECOND]);
-    if (answer[KIND] == UNCHANGED) printf(" =");
-    if (answer[KIND] == COLLECTED) printf(" %u %u ", answer[FIRST], answer[SECOND]);
-    if (answer[KIND] == COLLECTED) write_message(stdout, answer + COLLECTED_MESSAGE);
-    if (answer[KIND] == RUNNABLE) printf(" %08lx", word(answer + NUMBER));
+    if (kind == OFFERED) printf(" t%lu", word(answer + RENDEZVOUS_ANSWER_WORD));
+    if (kind == MOVED) printf(" %c", first);
+    if (kind == MOVED && strchr("ATC", first)) printf("%u", second);
+    if (kind == UNCHANGED) printf(" =");
+    if (kind == COLLECTED) printf(" %u %u ", first, second);
+    if (kind == COLLECTED) write_message(stdout, answer + RENDEZVOUS_ANSWER_MESSAGE);
+    if (kind == RUNNABLE) printf(" %08lx", word(answer + RENDEZVOUS_ANSWER_WORD));
     printf("\n");
 }
 
@@ -82,7 +83,7 @@ static void create(uint8_t n) {
 
 static void offer(uint8_t p, const uint8_t *guards, size_t length) {
     const char *call = begin('o', p);
-    for (size_t at = 0; at + RENDEZVOUS_GUARD <= length; at += RENDEZVOUS_GUARD) write_guard(script, guards + at);
+    for (size_t at = 0; at + RENDEZVOUS_GUARD_BYTES <= length; at += RENDEZVOUS_GUARD_BYTES) write_guard(script, guards + at);
     end_line();
     next(rendezvous_offer(table, sizeof table, p, guards, length, after, sizeof after, answer, sizeof answer), call);
 }
@@ -103,7 +104,7 @@ static bool runnable(void) {
     fprintf(script, "m");
     end_line();
     next(rendezvous_runnable(table, sizeof table, after, sizeof after, answer, sizeof answer), "m");
-    return word(answer + NUMBER) != 0;
+    return word(answer + RENDEZVOUS_ANSWER_WORD) != 0;
 }
 
 /* Rounds in which both processes step once, in number order, until nothing is runnable. */
@@ -112,12 +113,34 @@ static void settle(void) {
         for (uint8_t p = 0; p < 2; p++) step(p);
 }
 
+typedef uint8_t Guard[RENDEZVOUS_GUARD_BYTES];
+
+static void receives(Guard guard, uint8_t partner) {
+    memset(guard, 0, sizeof(Guard));
+    guard[RENDEZVOUS_GUARD_ENABLED] = true;
+    guard[RENDEZVOUS_GUARD_PARTNER] = partner;
+}
+
+static void sends(Guard guard, bool enabled, uint8_t partner, uint8_t kind, uint32_t first, uint32_t second) {
+    uint8_t *message = guard + RENDEZVOUS_GUARD_MESSAGE;
+    guard[RENDEZVOUS_GUARD_ENABLED] = enabled;
+    guard[RENDEZVOUS_GUARD_PARTNER] = partner;
+    guard[RENDEZVOUS_GUARD_SENDS] = true;
+    message[RENDEZVOUS_MESSAGE_KIND] = kind;
+    for (int k = 0; k < RENDEZVOUS_WORD_BYTES; k++) {
+        message[RENDEZVOUS_MESSAGE_FIRST + k] = first >> 8 * k;
+        message[RENDEZVOUS_MESSAGE_SECOND + k] = second >> 8 * k;
+    }
+}
+
 int main(int count, char **words) {
-    const uint8_t not_a_number[] = {1, 1, 1, 2, 0, 0, 0xc0, 0x7f, 0, 0, 0, 0};                                   /* 1!r7fc00000 */
-    const uint8_t reading[] = {1, 1, 1, 2, 0x3d, 0x0a, 0x97, 0x40, 0, 0, 0, 0};                                  /* 1!r40970a3d */
-    const uint8_t taking[] = {0, 0, 1, 1, 255, 255, 255, 255, 0, 0, 0, 0, 1, 0, 0, 0, 0, 0, 0, 0, 0, 0, 0, 0};   /* -0!w-1 0? */
-    const uint8_t limit[] = {1, 0, 1, 3, 0x3d, 0x0a, 0x97, 0x40, 0, 0, 0xa0, 0x40};                              /* 0!l40970a3d40a00000 */
-    const uint8_t taking_limit[] = {1, 1, 0, 0, 0, 0, 0, 0, 0, 0, 0, 0};                                         /* 1? */
+    Guard not_a_number, reading, taking[2], limit, taking_limit;
+    sends(not_a_number, true, 1, READING, 0x7fc00000, 0);
+    sends(reading, true, 1, READING, 0x40970a3d, 0);
+    sends(taking[0], false, 0, WHOLE, -1, 0);
+    receives(taking[1], 0);
+    sends(limit, true, 0, LIMIT, 0x40970a3d, 0x40a00000);
+    receives(taking_limit, 1);
     script = count == 2 ? fopen(words[1], "a") : NULL;
     if (!script) {
         fprintf(stderr, "logged-c LOG: LOG is a file that can be written.\n");
@@ -127,7 +150,7 @@ int main(int count, char **words) {
     offer(0, not_a_number, sizeof not_a_number);
     offer(0, reading, sizeof reading);
     settle();
-    offer(1, taking, sizeof taking);
+    offer(1, taking[0], sizeof taking);
     settle();
     collect(1);
     collect(0);

@@ -4,7 +4,7 @@
 #include <stdio.h>
 #include <string.h>
 
-static uint8_t session[RENDEZVOUS_SESSION], after[RENDEZVOUS_SESSION], piece[1000], out[1000 * RENDEZVOUS_LINE];
+static uint8_t session[RENDEZVOUS_SESSION_BYTES], after[RENDEZVOUS_SESSION_BYTES], piece[1000], out[1000 * RENDEZVOUS_LINE_BYTES];
 
 int main(void) {
     size_t length, taken, filled;

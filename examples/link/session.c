@@ -5,7 +5,7 @@
 #include <stdlib.h>
 #include <string.h>
 
-static uint8_t table[RENDEZVOUS_TABLE], after[RENDEZVOUS_TABLE], answer[RENDEZVOUS_ANSWER];
+static uint8_t table[RENDEZVOUS_TABLE_BYTES], after[RENDEZVOUS_TABLE_BYTES], answer[RENDEZVOUS_ANSWER_BYTES];
 
 /* A call with a buffer that is too short does nothing. The table that one hands back is the one for the next call. */
 static void next(bool called) {
@@ -19,7 +19,12 @@ static void step(uint8_t p, int times) {
 
 /* One enabled guard: its partner, whether it sends, and the bits of a reading. */
 static void offer(uint8_t p, uint8_t partner, bool sends, uint32_t bits) {
-    uint8_t guard[RENDEZVOUS_GUARD] = {1, partner, sends, sends ? 2 : 0, bits, bits >> 8, bits >> 16, bits >> 24};
+    uint8_t guard[RENDEZVOUS_GUARD_BYTES] = {0}, *message = guard + RENDEZVOUS_GUARD_MESSAGE;
+    guard[RENDEZVOUS_GUARD_ENABLED] = true;
+    guard[RENDEZVOUS_GUARD_PARTNER] = partner;
+    guard[RENDEZVOUS_GUARD_SENDS] = sends;
+    message[RENDEZVOUS_MESSAGE_KIND] = sends ? 2 : 0;
+    memcpy(message + RENDEZVOUS_MESSAGE_FIRST, &bits, sizeof bits);
     next(rendezvous_offer(table, sizeof table, p, guard, sizeof guard, after, sizeof after, answer, sizeof answer));
 }
 
@@ -34,7 +39,7 @@ int main(void) {
     step(1, 4); /* 1 finds 0 waiting, commits and takes the reading */
     step(0, 1); /* 0 absorbs the signal */
     next(rendezvous_collect(table, sizeof table, 1, after, sizeof after, answer, sizeof answer));
-    memcpy(&received, answer + 4, sizeof received);
-    printf("process 1 collects %.2f from process %d\n", received, answer[2]);
-    return answer[0] == 4 && memcmp(&received, &sent, sizeof sent) == 0 ? 0 : 1;
+    memcpy(&received, answer + RENDEZVOUS_ANSWER_MESSAGE + RENDEZVOUS_MESSAGE_FIRST, sizeof received);
+    printf("process 1 collects %.2f from process %d\n", received, answer[RENDEZVOUS_ANSWER_SECOND]);
+    return answer[RENDEZVOUS_ANSWER_KIND] == 4 && memcmp(&received, &sent, sizeof sent) == 0 ? 0 : 1;
 }

@@ -4,22 +4,33 @@
 #[path = "../../crates/exports/rendezvous.rs"]
 mod rendezvous;
 
-use rendezvous::{collect, create, offer, step, ANSWER, GUARD, TABLE};
-
-/// One enabled guard that sends a reading.
-fn sends(partner: u8, reading: f32) -> [u8; GUARD] {
-    let [a, b, c, d] = reading.to_le_bytes();
-    [1, partner, 1, 2, a, b, c, d, 0, 0, 0, 0]
-}
+use rendezvous::{collect, create, offer, step};
+use rendezvous::{ANSWER_BYTES, ANSWER_KIND, ANSWER_MESSAGE, ANSWER_SECOND, TABLE_BYTES};
+use rendezvous::{GUARD_BYTES, GUARD_ENABLED, GUARD_MESSAGE, GUARD_PARTNER, GUARD_SENDS};
+use rendezvous::{MESSAGE_FIRST, MESSAGE_KIND, MESSAGE_SECOND};
 
 /// One enabled guard that receives.
-fn receives(partner: u8) -> [u8; GUARD] {
-    [1, partner, 0, 0, 0, 0, 0, 0, 0, 0, 0, 0]
+fn receives(partner: u8) -> [u8; GUARD_BYTES] {
+    let mut guard = [0; GUARD_BYTES];
+    guard[GUARD_ENABLED] = 1;
+    guard[GUARD_PARTNER] = partner;
+    guard
+}
+
+/// One enabled guard that sends a reading.
+fn sends(partner: u8, reading: f32) -> [u8; GUARD_BYTES] {
+    let mut guard = receives(partner);
+    guard[GUARD_SENDS] = 1;
+    let message = &mut guard[GUARD_MESSAGE..];
+    message[MESSAGE_KIND] = 2;
+    message[MESSAGE_FIRST..MESSAGE_SECOND].copy_from_slice(&reading.to_le_bytes());
+    guard
 }
 
 fn main() {
     let sent: f32 = 4.72;
-    let (mut table, mut after, mut answer) = ([0; TABLE], [0; TABLE], [0; ANSWER]);
+    let (mut table, mut after) = ([0; TABLE_BYTES], [0; TABLE_BYTES]);
+    let mut answer = [0; ANSWER_BYTES];
     assert!(create(2, &mut table, &mut answer));
     assert!(offer(&table, 0, &sends(1, sent), &mut after, &mut answer));
     // The table that a call hands back is the one for the next call.
@@ -33,8 +44,11 @@ fn main() {
         table = after;
     }
     assert!(collect(&table, 1, &mut after, &mut answer));
-    let [kind, _, partner, _, a, b, c, d, ..] = answer;
-    let received = f32::from_le_bytes([a, b, c, d]);
+    let message = &answer[ANSWER_MESSAGE..];
+    let bytes = &message[MESSAGE_FIRST..MESSAGE_SECOND];
+    let received = f32::from_le_bytes(bytes.try_into().unwrap());
+    let partner = answer[ANSWER_SECOND];
     println!("process 1 collects {received:.2} from process {partner}");
-    assert_eq!((kind, received.to_bits()), (4, sent.to_bits()));
+    assert_eq!(answer[ANSWER_KIND], 4);
+    assert_eq!(received.to_bits(), sent.to_bits());
 }

@@ -28,7 +28,7 @@
 #include <string.h>
 
 enum { SAMPLER, FINDER, PROCESSES };
-/* The first byte of an answer (docs/BYTES.md). */
+/* Kinds of answers (docs/BYTES.md). */
 enum { OFFERED = 1, MOVED = 2, COLLECTED = 4 };
 
 /* What a task collects: which of its guards has met, and the message's one or two f32, as bits. */
@@ -40,7 +40,7 @@ typedef struct {
 static pthread_mutex_t lock = PTHREAD_MUTEX_INITIALIZER;
 static pthread_cond_t met = PTHREAD_COND_INITIALIZER;
 /* Under the lock: the table, and what the last call handed back. */
-static uint8_t table[RENDEZVOUS_TABLE], after[RENDEZVOUS_TABLE], answer[RENDEZVOUS_ANSWER];
+static uint8_t table[RENDEZVOUS_TABLE_BYTES], after[RENDEZVOUS_TABLE_BYTES], answer[RENDEZVOUS_ANSWER_BYTES];
 
 static _Noreturn void fail(const char *what) {
     fprintf(stderr, "tasks-c: %s\n", what);
@@ -51,6 +51,10 @@ static uint32_t word(const uint8_t *bytes) {
     return bytes[0] | (uint32_t)bytes[1] << 8 | (uint32_t)bytes[2] << 16 | (uint32_t)bytes[3] << 24;
 }
 
+static void put_word(uint8_t *bytes, uint32_t value) {
+    for (int k = 0; k < RENDEZVOUS_WORD_BYTES; k++) bytes[k] = value >> 8 * k;
+}
+
 /* The table that a call hands back is the one for the next call. */
 static void keep(bool called) {
     if (!called) fail("a buffer is too short");
@@ -59,7 +63,7 @@ static void keep(bool called) {
 
 static void offer(uint8_t p, const uint8_t *guards, size_t length) {
     keep(rendezvous_offer(table, sizeof table, p, guards, length, after, sizeof after, answer, sizeof answer));
-    if (answer[0] != OFFERED) fail("an offer is refused");
+    if (answer[RENDEZVOUS_ANSWER_KIND] != OFFERED) fail("an offer is refused");
 }
 
 /* Every process steps once, in number order. Gives whether that changed anything. */
@@ -67,7 +71,7 @@ static bool round_changes(void) {
     bool changes = false;
     for (uint8_t p = 0; p < PROCESSES; p++) {
         keep(rendezvous_step(table, sizeof table, p, after, sizeof after, answer, sizeof answer));
-        if (answer[0] == MOVED) changes = true;
+        if (answer[RENDEZVOUS_ANSWER_KIND] == MOVED) changes = true;
     }
     return changes;
 }
@@ -75,7 +79,7 @@ static bool round_changes(void) {
 /* Whether process p was at M; its outcome is then in the answer. */
 static bool collected(uint8_t p) {
     keep(rendezvous_collect(table, sizeof table, p, after, sizeof after, answer, sizeof answer));
-    return answer[0] == COLLECTED;
+    return answer[RENDEZVOUS_ANSWER_KIND] == COLLECTED;
 }
 
 /* The loop of a task: process p offers the guards, and meets. */
@@ -89,22 +93,29 @@ static Outcome meet(uint8_t p, const uint8_t *guards, size_t length) {
         do pthread_cond_wait(&met, &lock);
         while (!collected(p));
     }
-    Outcome outcome = {answer[1], word(answer + 4), word(answer + 8)};
+    const uint8_t *message = answer + RENDEZVOUS_ANSWER_MESSAGE;
+    Outcome outcome = {answer[RENDEZVOUS_ANSWER_FIRST], word(message + RENDEZVOUS_MESSAGE_FIRST), word(message + RENDEZVOUS_MESSAGE_SECOND)};
     pthread_mutex_unlock(&lock);
     return outcome;
 }
 
 enum { READING = 2, LIMIT = 3 };
-typedef uint8_t Guard[RENDEZVOUS_GUARD];
+typedef uint8_t Guard[RENDEZVOUS_GUARD_BYTES];
 
 static void receives(Guard guard, uint8_t partner) {
-    const Guard bytes = {true, partner, false};
-    memcpy(guard, bytes, sizeof bytes);
+    memset(guard, 0, sizeof(Guard));
+    guard[RENDEZVOUS_GUARD_ENABLED] = true;
+    guard[RENDEZVOUS_GUARD_PARTNER] = partner;
 }
 
 static void sends(Guard guard, bool enabled, uint8_t partner, uint8_t kind, uint32_t low, uint32_t high) {
-    const Guard bytes = {enabled, partner, true, kind, low, low >> 8, low >> 16, low >> 24, high, high >> 8, high >> 16, high >> 24};
-    memcpy(guard, bytes, sizeof bytes);
+    uint8_t *message = guard + RENDEZVOUS_GUARD_MESSAGE;
+    guard[RENDEZVOUS_GUARD_ENABLED] = enabled;
+    guard[RENDEZVOUS_GUARD_PARTNER] = partner;
+    guard[RENDEZVOUS_GUARD_SENDS] = true;
+    message[RENDEZVOUS_MESSAGE_KIND] = kind;
+    put_word(message + RENDEZVOUS_MESSAGE_FIRST, low);
+    put_word(message + RENDEZVOUS_MESSAGE_SECOND, high);
 }
 
 /* Reading k has the bits of 4.72 and k more, so that no two are alike. A batch is acknowledged by a limit: its first and its last. */

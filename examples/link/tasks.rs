@@ -20,7 +20,10 @@
 #[path = "../../crates/exports/rendezvous.rs"]
 mod rendezvous;
 
-use rendezvous::{collect, create, offer, step, ANSWER, GUARD, TABLE};
+use rendezvous::{collect, create, offer, step};
+use rendezvous::{ANSWER_BYTES, ANSWER_FIRST, ANSWER_KIND, ANSWER_MESSAGE, TABLE_BYTES};
+use rendezvous::{GUARD_BYTES, GUARD_ENABLED, GUARD_MESSAGE, GUARD_PARTNER, GUARD_SENDS};
+use rendezvous::{MESSAGE_BYTES, MESSAGE_FIRST, MESSAGE_KIND, MESSAGE_SECOND};
 use std::sync::{Condvar, Mutex};
 use std::thread;
 
@@ -28,7 +31,7 @@ const SAMPLER: u8 = 0;
 const FINDER: u8 = 1;
 const PROCESSES: u8 = 2;
 
-// The first byte of an answer (docs/BYTES.md).
+// Kinds of answers (docs/BYTES.md).
 const OFFERED: u8 = 1;
 const MOVED: u8 = 2;
 const COLLECTED: u8 = 4;
@@ -42,27 +45,27 @@ struct Outcome {
 
 /// The table, and what the last call answered.
 struct Table {
-    bytes: [u8; TABLE],
-    answer: [u8; ANSWER],
+    bytes: [u8; TABLE_BYTES],
+    answer: [u8; ANSWER_BYTES],
 }
 
 impl Table {
     fn fresh() -> Table {
-        let (mut bytes, mut answer) = ([0; TABLE], [0; ANSWER]);
+        let (mut bytes, mut answer) = ([0; TABLE_BYTES], [0; ANSWER_BYTES]);
         assert!(create(PROCESSES, &mut bytes, &mut answer));
         Table { bytes, answer }
     }
 
     /// The table that a call hands back is the one for the next call.
     fn call(&mut self, called: impl FnOnce(&[u8], &mut [u8], &mut [u8]) -> bool) {
-        let mut after = [0; TABLE];
+        let mut after = [0; TABLE_BYTES];
         assert!(called(&self.bytes, &mut after, &mut self.answer));
         self.bytes = after;
     }
 
     fn offer(&mut self, p: u8, guards: &[u8]) {
         self.call(|table, after, answer| offer(table, p, guards, after, answer));
-        assert_eq!(self.answer[0], OFFERED, "an offer is refused");
+        assert_eq!(self.answer[ANSWER_KIND], OFFERED, "an offer is refused");
     }
 
     /// Every process steps once, in number order. Gives whether that changed anything.
@@ -70,7 +73,7 @@ impl Table {
         let mut changes = false;
         for p in 0..PROCESSES {
             self.call(|table, after, answer| step(table, p, after, answer));
-            changes |= self.answer[0] == MOVED;
+            changes |= self.answer[ANSWER_KIND] == MOVED;
         }
         changes
     }
@@ -78,13 +81,17 @@ impl Table {
     /// The outcome of process p, if it is at M.
     fn collected(&mut self, p: u8) -> Option<Outcome> {
         self.call(|table, after, answer| collect(table, p, after, answer));
-        let [kind, guard, _, _, a, b, c, d, e, f, g, h, ..] = self.answer;
-        (kind == COLLECTED).then_some(Outcome {
-            guard,
-            low: u32::from_le_bytes([a, b, c, d]),
-            high: u32::from_le_bytes([e, f, g, h]),
+        let message = &self.answer[ANSWER_MESSAGE..];
+        (self.answer[ANSWER_KIND] == COLLECTED).then_some(Outcome {
+            guard: self.answer[ANSWER_FIRST],
+            low: word(&message[MESSAGE_FIRST..MESSAGE_SECOND]),
+            high: word(&message[MESSAGE_SECOND..MESSAGE_BYTES]),
         })
     }
+}
+
+fn word(bytes: &[u8]) -> u32 {
+    u32::from_le_bytes(bytes.try_into().unwrap())
 }
 
 struct Shared {
@@ -109,21 +116,28 @@ fn meet(shared: &Shared, p: u8, guards: &[u8]) -> Outcome {
     }
 }
 
+// Kinds of messages.
+const READING: u8 = 2;
+const LIMIT: u8 = 3;
+
 /// A guard that receives.
-fn receives(partner: u8) -> [u8; GUARD] {
-    [1, partner, 0, 0, 0, 0, 0, 0, 0, 0, 0, 0]
+fn receives(partner: u8) -> [u8; GUARD_BYTES] {
+    let mut guard = [0; GUARD_BYTES];
+    guard[GUARD_ENABLED] = 1;
+    guard[GUARD_PARTNER] = partner;
+    guard
 }
 
-/// A guard that sends a reading, by its bits.
-fn sends_reading(enabled: bool, partner: u8, bits: u32) -> [u8; GUARD] {
-    let [a, b, c, d] = bits.to_le_bytes();
-    [enabled.into(), partner, 1, 2, a, b, c, d, 0, 0, 0, 0]
-}
-
-/// A guard that sends a limit, by its bits.
-fn sends_limit(partner: u8, low: u32, high: u32) -> [u8; GUARD] {
-    let ([a, b, c, d], [e, f, g, h]) = (low.to_le_bytes(), high.to_le_bytes());
-    [1, partner, 1, 3, a, b, c, d, e, f, g, h]
+/// A guard that sends a reading or a limit, by its bits.
+fn sends(enabled: bool, partner: u8, kind: u8, low: u32, high: u32) -> [u8; GUARD_BYTES] {
+    let mut guard = receives(partner);
+    guard[GUARD_ENABLED] = enabled.into();
+    guard[GUARD_SENDS] = 1;
+    let message = &mut guard[GUARD_MESSAGE..];
+    message[MESSAGE_KIND] = kind;
+    message[MESSAGE_FIRST..MESSAGE_SECOND].copy_from_slice(&low.to_le_bytes());
+    message[MESSAGE_SECOND..MESSAGE_BYTES].copy_from_slice(&high.to_le_bytes());
+    guard
 }
 
 /// A batch of readings is acknowledged by a limit: its first and its last.
@@ -146,7 +160,7 @@ fn sample(shared: &Shared, batches: u32) -> Count {
     let mut count = Count::default();
     while count.limits < batches {
         let more = count.readings < BATCH * batches;
-        let next = sends_reading(more, FINDER, reading(count.readings));
+        let next = sends(more, FINDER, READING, reading(count.readings), 0);
         let outcome = meet(shared, SAMPLER, &[next, receives(FINDER)].concat());
         if outcome.guard == 0 {
             count.readings += 1;
@@ -170,7 +184,7 @@ fn find(shared: &Shared, batches: u32) -> Count {
             assert_eq!(outcome.low, reading(count.readings));
             count.readings += 1;
         }
-        let limit = sends_limit(SAMPLER, reading(first), reading(last));
+        let limit = sends(true, SAMPLER, LIMIT, reading(first), reading(last));
         meet(shared, FINDER, &limit);
         count.limits += 1;
     }

@@ -1,4 +1,4 @@
-//! Links the loop of `meter`, and `exports` for a step by way of the byte form.
+//! Links the loop of `meter`, and `exports` for a step by way of bytes.
 
 fn main() {
     println!("cargo:rustc-link-search=native=../../target/staticlib");

@@ -1,5 +1,6 @@
 -- To be believed. Document 01, "The desk and its tasks" and rule 7: when guards and offers match, and the two searches in a list of guards.
-use Rattle.alternative.specs.Types.{ℕ, suc, Bool, true, false, _&&_, _||_, cond, List, [], _∷_, _++_, length, take, drop, replicate, eqb, Action, Receive, Send, Guard, GuardList, Found, At, Missing}
+use Rattle.alternative.specs.Types.{ℕ, suc, Bool, true, false, _&&_, _||_, cond, List, [], _∷_, _++_, length, take, drop, replicate, eqb, Action, Guard}
+use Rattle.alternative.specs.Types.{GuardList, Found}
 
 -- "its list of up to eight guards"
 abbrev pub mostGuards : ℕ
@@ -7,14 +8,14 @@ mostGuards = 8
 
 -- what stands in a slot of a guard array past the list's end
 abbrev pub blank : Guard
-blank = record { enabled = false; partner = 0; action = Receive }
+blank = record { enabled = false; partner = 0; action = Action.Receive }
 
 -- "one sends while the other receives"
 abbrev pub opposite : Action → Action → Bool
-opposite Receive Receive = false
-opposite Receive (Send m) = true
-opposite (Send m) Receive = true
-opposite (Send m) (Send k) = false
+opposite Action.Receive Action.Receive = false
+opposite Action.Receive (Action.Send m) = true
+opposite (Action.Send m) Action.Receive = true
+opposite (Action.Send m) (Action.Send k) = false
 
 -- "Two guards match if both are enabled, each names the other's party, and one sends while the other receives.": g is a guard of p, h one of q
 unfoldable pub guardsMatch : ℕ → Guard → ℕ → Guard → Bool
@@ -31,12 +32,12 @@ offersMatch p gs q hs = anyGuard (λ g. anyGuard (guardsMatch p g q) hs) gs
 
 -- the first guard of a list that passes a test; the list's indexes start at k
 unfoldable pub firstFrom : (Guard → Bool) → List Guard → ℕ → Found
-firstFrom test [] k = Missing
-firstFrom test (g ∷ gs) k = cond (test g) (At k) (firstFrom test gs (suc k))
+firstFrom test [] k = Found.Missing
+firstFrom test (g ∷ gs) k = cond (test g) (Found.At k) (firstFrom test gs (suc k))
 
 -- rule 7: the first guard of q's list that matches p's guard g
-unfoldable pub firstMatch : ℕ → Guard → ℕ → List Guard → Found
-firstMatch p g q hs = firstFrom (guardsMatch p g q) hs 0
+unfoldable pub keptMatch : ℕ → Guard → ℕ → List Guard → Found
+keptMatch p g q hs = firstFrom (guardsMatch p g q) hs 0
 
 -- the first enabled guard of a list at or after index k
 unfoldable pub nextEnabled : List Guard → ℕ → Found

@@ -10,6 +10,3 @@ pub use mathlib.Core.Option.{Option, some, none}
 pub use lib.ListN.{length, take, drop, replicate, getD, getElem?, set}
 pub use lib.Dec.{eqb, ltb, leb}
 pub use Rattle.alternative.specs.declared.{Message.Message, Action.Action, Guard.Guard, GuardList.GuardList, Found.Found}
-pub use Rattle.alternative.specs.declared.Message.the-variants.{Nothing, Whole, Reading, Limit}
-pub use Rattle.alternative.specs.declared.Action.the-variants.{Receive, Send}
-pub use Rattle.alternative.specs.declared.Found.the-variants.{At, Missing}

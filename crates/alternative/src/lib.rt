@@ -14,7 +14,7 @@ pub use floats::bits_of;
 pub use floats::float_of;
 pub use lists::blanked;
 pub use matching::any_enabled;
-pub use matching::first_match;
+pub use matching::kept_match;
 pub use matching::next_enabled;
 
 // Document 01's message: nothing, a whole number, one reading, or a limit of two readings, low and high.

@@ -5,7 +5,7 @@ use crate::Guard;
 use crate::lists::held;
 ghost use mathlib.Core.Path.{_≡_};
 ghost use lib.ListN.{take};
-ghost use Rattle.alternative.specs.Guards.{opposite, guardsMatch, anyGuard, firstMatch, nextEnabled};
+ghost use Rattle.alternative.specs.Guards.{opposite, guardsMatch, anyGuard, keptMatch, nextEnabled};
 
 fn are_opposite(a: Action, b: Action) -> bool
     ensures { λ r. ⌜ r ≡ opposite a b ⌝ }
@@ -32,8 +32,8 @@ fn guards_match(p: u8, g: Guard, q: u8, h: Guard) -> bool
 }
 
 // The first guard in the list of process q, `count` guards, that matches guard g of process p.
-pub fn first_match(p: u8, g: Guard, q: u8, list: [Guard; 8], count: usize) -> Found
-    ensures { λ r. ⌜ r ≡ firstMatch p g q (take count list) ⌝ }
+pub fn kept_match(p: u8, g: Guard, q: u8, list: [Guard; 8], count: usize) -> Found
+    ensures { λ r. ⌜ r ≡ keptMatch p g q (take count list) ⌝ }
 {
     let end = held(count);
     let mut k: usize = 0;

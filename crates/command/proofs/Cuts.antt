@@ -10,7 +10,7 @@ use lib.Dec.{eqb}
 use lib.ListN.{length, take, drop, drop-of-length-le}
 use lib.Seq.{drop-cons, drop-drop, take-all}
 use Rattle.text.specs.Reading.{byteNumber}
-use Rattle.command.specs.Commands.{fields, putBefore, leading, numberOf}
+use Rattle.command.specs.Commands.{fields, putBefore, leading, numberIn}
 use Rattle.command.specs.Private.{fieldLength, fieldsAfter}
 
 pub fields-cut : (s : List ℕ) → fields s ≡ take (fieldLength s) s ∷ fieldsAfter (drop (fieldLength s) s)
@@ -37,10 +37,10 @@ unfolding fieldsAfter
 last-cut s i h = rw (drop-of-length-le s h)
 
 -- one field is the whole line, and a line with a space has more
-pub number-whole : (s : List ℕ) → length s ≤ fieldLength s → numberOf (fields s) ≡ byteNumber s
-unfolding numberOf
+pub number-whole : (s : List ℕ) → length s ≤ fieldLength s → numberIn (fields s) ≡ byteNumber s
+unfolding numberIn
 number-whole s h = rw (fields-cut s, last-cut s (fieldLength s) h, take-all (fieldLength s) s h)
 
-pub number-parted : (s : List ℕ) → fieldLength s < length s → numberOf (fields s) ≡ none
-unfolding numberOf
+pub number-parted : (s : List ℕ) → fieldLength s < length s → numberIn (fields s) ≡ none
+unfolding numberIn
 number-parted s h = rw (fields-cut s, next-cut s (fieldLength s) h)

@@ -16,8 +16,8 @@ module _ (gs : List Guard) (g : Guard) where
   pub longer-length : length (gs ++ g ∷ []) ≡ length gs + 1
   longer-length = length-append gs (g ∷ [])
 
-  kept : (i : ℕ) → i < 8 → i < length gs → getD (slots gs) i blank ≡ getD (gs ++ g ∷ []) i blank
-  kept i b h = slots-at gs i b ∙ sym (List·getD-append gs (g ∷ []) blank i h)
+  old-slot : (i : ℕ) → i < 8 → i < length gs → getD (slots gs) i blank ≡ getD (gs ++ g ∷ []) i blank
+  old-slot i b h = slots-at gs i b ∙ sym (List·getD-append gs (g ∷ []) blank i h)
 
   past : (i : ℕ) → i < 8 → length gs < i → getD (slots gs) i blank ≡ getD (gs ++ g ∷ []) i blank
   past i b h =
@@ -26,7 +26,7 @@ module _ (gs : List Guard) (g : Guard) where
       slots-at gs i b ∙ List·getD-eq-default gs blank short ∙ sym (List·getD-eq-default (gs ++ g ∷ []) blank out)
 
   slots-full : 8 ≤ length gs → slots gs ≡ slots (gs ++ g ∷ [])
-  slots-full h = slots-are (gs ++ g ∷ []) (slots gs) (slots-length gs) (λ i b. kept i b (omega arith))
+  slots-full h = slots-are (gs ++ g ∷ []) (slots gs) (slots-length gs) (λ i b. old-slot i b (omega arith))
 
   added : length gs < 8 → (i : ℕ) → i < 8 → getD (set (slots gs) (length gs) g) i blank ≡ getD (gs ++ g ∷ []) i blank
   added h i b = go (ltb i (length gs)) (eqb i (length gs)) refl refl
@@ -34,7 +34,7 @@ module _ (gs : List Guard) (g : Guard) where
       go : (t e : Bool) → ltb i (length gs) ≡ t → eqb i (length gs) ≡ e → getD (set (slots gs) (length gs) g) i blank ≡ getD (gs ++ g ∷ []) i blank
       go true e p q =
           let l = ltb-true i (length gs) p in
-          getD-set-other (slots gs) (length gs) i g blank (omega arith) ∙ kept i b l
+          getD-set-other (slots gs) (length gs) i g blank (omega arith) ∙ old-slot i b l
       go false true p q =
           rw (eqb-true i (length gs) q) (getD-set-same (slots gs) (length gs) g blank (omega (arith, slots-length gs)) ∙ sym (getD-append-seam gs g [] blank))
       go false false p q =
@@ -47,9 +47,9 @@ module _ (gs : List Guard) (g : Guard) where
 
   -- in the form of the code: the slots after a list's count
   module _ (list : GuardList) (after : List Guard) (e : list ≡ lent gs) where
-    pub grown-kept : list .count < 8 → after ≡ set (list .guards) (list .count) g → record { count = list .count + 1; guards = after } ≡ lent (gs ++ g ∷ [])
+    pub grown-within : list .count < 8 → after ≡ set (list .guards) (list .count) g → record { count = list .count + 1; guards = after } ≡ lent (gs ++ g ∷ [])
     unfolding lent
-    grown-kept h k = rw (k, e, longer-length, slots-more (subst (λ (l : GuardList). l .count < 8) e h))
+    grown-within h k = rw (k, e, longer-length, slots-more (subst (λ (l : GuardList). l .count < 8) e h))
 
     pub grown-counted : 8 ≤ list .count → after ≡ list .guards → record { count = list .count + 1; guards = after } ≡ lent (gs ++ g ∷ [])
     unfolding lent

@@ -7,7 +7,7 @@ use native.Mathlib.Omega.{arith}
 use lib.ListN.{length, take, drop, length-drop}
 use Rattle.text.specs.Types.{_>>=_}
 use Rattle.command.specs.Types.{Guard}
-use Rattle.command.specs.Commands.{guardOf, guardsOf}
+use Rattle.command.specs.Commands.{guardIn, guardsIn}
 use Rattle.command.specs.Private.{notSpace, fieldLength, fieldsAfter}
 use Rattle.command.proofs.Leading.{leading-most, part-rest}
 use Rattle.command.proofs.Cuts.{next-cut, last-cut}
@@ -42,15 +42,15 @@ module _ (s : List ℕ) (i n : ℕ) (h : i < length s) (e : n ≡ fieldLength (t
       ap (λ (m : ℕ). take m (drop (i + 1) s)) t
 
   -- the next field's guard stands before the guards after it
-  pub guards-more : (gs : List Guard) (g : Guard) → guardOf (take (i + 1 + n - (i + 1)) (drop (i + 1) s)) ≡ some g
-      → prefixed gs (guardsOf (fieldsAfter (drop i s))) ≡ prefixed (gs ++ g ∷ []) (guardsOf (fieldsAfter (drop (i + 1 + n) s)))
-  unfolding guardsOf prefixed
-  guards-more gs g k = rw (next-cut s i h, next-part, k, ← next-length) (prefixed-more gs g (guardsOf (fieldsAfter (drop (i + 1 + n) s))))
+  pub guards-more : (gs : List Guard) (g : Guard) → guardIn (take (i + 1 + n - (i + 1)) (drop (i + 1) s)) ≡ some g
+      → prefixed gs (guardsIn (fieldsAfter (drop i s))) ≡ prefixed (gs ++ g ∷ []) (guardsIn (fieldsAfter (drop (i + 1 + n) s)))
+  unfolding guardsIn prefixed
+  guards-more gs g k = rw (next-cut s i h, next-part, k, ← next-length) (prefixed-more gs g (guardsIn (fieldsAfter (drop (i + 1 + n) s))))
 
-  pub guards-stop : (gs : List Guard) → guardOf (take (i + 1 + n - (i + 1)) (drop (i + 1) s)) ≡ none → prefixed gs (guardsOf (fieldsAfter (drop i s))) ≡ none
-  unfolding guardsOf prefixed
+  pub guards-stop : (gs : List Guard) → guardIn (take (i + 1 + n - (i + 1)) (drop (i + 1) s)) ≡ none → prefixed gs (guardsIn (fieldsAfter (drop i s))) ≡ none
+  unfolding guardsIn prefixed
   guards-stop gs k = rw (next-cut s i h, next-part, k)
 
-pub guards-end : (gs : List Guard) (s : List ℕ) (i : ℕ) → length s ≤ i → prefixed gs (guardsOf (fieldsAfter (drop i s))) ≡ some gs
-unfolding guardsOf prefixed
+pub guards-end : (gs : List Guard) (s : List ℕ) (i : ℕ) → length s ≤ i → prefixed gs (guardsIn (fieldsAfter (drop i s))) ≡ some gs
+unfolding guardsIn prefixed
 guards-end gs s i h = rw (last-cut s i h, append-nil gs)

@@ -8,7 +8,7 @@ use mathlib.Core.Option.{none}
 use native.Mathlib.Omega.{arith}
 use borrow.Author.Tests.{eq-eqb, ne-eqb}
 use lib.ListN.{length, getD, drop}
-use Rattle.command.specs.Commands.{isEmpty, messageBy, messageOf, actionBy, actionOf, guardFrom, guardOf}
+use Rattle.command.specs.Commands.{isEmpty, messageBy, messageIn, actionBy, actionIn, guardFrom, guardIn}
 
 pub empty-of : (s : List ℕ) → length s ≡ 0 → s ≡ []
 empty-of [] e = refl
@@ -23,34 +23,34 @@ not-alone [] h k = absurd (h refl)
 not-alone (b ∷ []) h k = absurd (k refl)
 not-alone (b ∷ d ∷ ds) h k = refl
 
-pub message-none : (s : List ℕ) → length s ≡ 0 → messageOf s ≡ none
-unfolding messageOf
+pub message-none : (s : List ℕ) → length s ≡ 0 → messageIn s ≡ none
+unfolding messageIn
 message-none s e = rw (empty-of s e)
 
-pub message-by : (s : List ℕ) → (length s ≡ 0 → ⊥) → messageOf s ≡ messageBy (getD s 0 0) (drop 1 s)
-unfolding messageOf
+pub message-by : (s : List ℕ) → (length s ≡ 0 → ⊥) → messageIn s ≡ messageBy (getD s 0 0) (drop 1 s)
+unfolding messageIn
 message-by [] h = absurd (h refl)
 message-by (b ∷ bs) h = refl
 
-pub action-none : (s : List ℕ) → length s ≡ 0 → actionOf s ≡ none
-unfolding actionOf
+pub action-none : (s : List ℕ) → length s ≡ 0 → actionIn s ≡ none
+unfolding actionIn
 action-none s e = rw (empty-of s e)
 
-pub action-by : (s : List ℕ) → (length s ≡ 0 → ⊥) → actionOf s ≡ actionBy (getD s 0 0) (drop 1 s)
-unfolding actionOf
+pub action-by : (s : List ℕ) → (length s ≡ 0 → ⊥) → actionIn s ≡ actionBy (getD s 0 0) (drop 1 s)
+unfolding actionIn
 action-by [] h = absurd (h refl)
 action-by (b ∷ bs) h = refl
 
-pub guard-none : (s : List ℕ) → length s ≡ 0 → guardOf s ≡ none
-unfolding guardOf
+pub guard-none : (s : List ℕ) → length s ≡ 0 → guardIn s ≡ none
+unfolding guardIn
 guard-none s e = rw (empty-of s e)
 
-pub guard-disabled : (s : List ℕ) → (length s ≡ 0 → ⊥) → getD s 0 0 ≡ code "-" → guardOf s ≡ guardFrom false (drop 1 s)
-unfolding guardOf
+pub guard-disabled : (s : List ℕ) → (length s ≡ 0 → ⊥) → getD s 0 0 ≡ code "-" → guardIn s ≡ guardFrom false (drop 1 s)
+unfolding guardIn
 guard-disabled [] h e = absurd (h refl)
 guard-disabled (b ∷ bs) h e = rw (eq-eqb b (code "-") e)
 
-pub guard-enabled : (s : List ℕ) → (length s ≡ 0 → ⊥) → (getD s 0 0 ≡ code "-" → ⊥) → guardOf s ≡ guardFrom true s
-unfolding guardOf
+pub guard-enabled : (s : List ℕ) → (length s ≡ 0 → ⊥) → (getD s 0 0 ≡ code "-" → ⊥) → guardIn s ≡ guardFrom true s
+unfolding guardIn
 guard-enabled [] h e = absurd (h refl)
 guard-enabled (b ∷ bs) h e = rw (ne-eqb b (code "-") e)

@@ -11,10 +11,10 @@ use lib.Dec.{eqb}
 use lib.ListN.{length, getD, drop}
 use Rattle.text.specs.Types.{_>>=_}
 use Rattle.text.specs.Reading.{provided}
-use Rattle.command.specs.Types.{Kind}
-use Rattle.command.specs.Form.{plain, asParsed}
+use Rattle.command.specs.Types.{Command, Movers, Kind}
+use Rattle.command.specs.InCode.{plain, asParsed}
 use Rattle.command.specs.Private.{asNumbered}
-use Rattle.command.specs.Commands.{Command, Movers, isEmpty, fields, putBefore, numberOf, numbered, offerOf, byLetter, commandIn, commandOf}
+use Rattle.command.specs.Commands.{isEmpty, fields, putBefore, numberIn, numbered, offerIn, byLetter, commandIn, commandOf}
 use Rattle.command.proofs.Heads.{empty-of, alone-of}
 use Rattle.command.proofs.Cuts.{fields-cut}
 
@@ -52,7 +52,7 @@ command-glued k b bs h = rw (ne-eqb b (code " ") h) (glued k b (fields bs) (eqb 
 
 -- of the letters only `m` stands alone
 pub alone-none : (k : ℕ) → (k ≡ code "m" → ⊥) → byLetter k [] ≡ none
-unfolding byLetter numbered numberOf offerOf
+unfolding byLetter numbered numberIn offerIn
 alone-none k h = rw (ne-eqb k (code "m") h) (same (eqb k (code "n")) (eqb k (code "o")) (eqb k (code "s")) (eqb k (code "c")))
   where
     same : (n o s c : Bool) → _≡_ {A = Option Command} (cond n none (cond o none (cond s none (cond c none none)))) none
@@ -72,9 +72,9 @@ unfolding byLetter
 with-none k s n o t c = rw (ne-eqb k (code "n") n, ne-eqb k (code "o") o, ne-eqb k (code "s") t, ne-eqb k (code "c") c) (no-movers s (eqb k (code "m")))
 
 -- a command of one number, in the form of the code
-pub numbered-as : (kind : Kind) (make : ℕ → Command) → ((n : ℕ) → plain kind n ≡ asParsed (some (make n))) → (fs : List (List ℕ)) → asNumbered kind (numberOf fs) ≡ asParsed (numbered make fs)
+pub numbered-as : (kind : Kind) (make : ℕ → Command) → ((n : ℕ) → plain kind n ≡ asParsed (some (make n))) → (fs : List (List ℕ)) → asNumbered kind (numberIn fs) ≡ asParsed (numbered make fs)
 unfolding numbered
-numbered-as kind make h fs = go (numberOf fs)
+numbered-as kind make h fs = go (numberIn fs)
   where
     go : (o : Option ℕ) → asNumbered kind o ≡ asParsed (_>>=_ o (λ n. some (make n)))
     go none = refl

@@ -8,28 +8,28 @@ use mathlib.Core.Option.{Option, some, none}
 use lib.IntN.{negℤ, pos}
 use lib.Ieee.{binary32, ofBits}
 use Rattle.text.specs.Ascii.{bytes}
-use Rattle.command.specs.Types.{Message, Nothing, Whole, Reading, Limit, Receive, Send, Guard}
-use Rattle.command.specs.Commands.{Command, New, Offer, Step, Collect, Movers, commandOf}
+use Rattle.command.specs.Types.{Message, Action, Guard, Offer, Step, Collect, Command, New, Do, Movers}
+use Rattle.command.specs.Commands.{commandOf}
 
 abbrev says : String → Option Command
 says line = commandOf (bytes line)
 
 abbrev receives : ℕ → Guard
-receives p = record { enabled = true; partner = p; action = Receive }
+receives p = record { enabled = true; partner = p; action = Action.Receive }
 
 abbrev sends : ℕ → Message → Guard
-sends p m = record { enabled = true; partner = p; action = Send m }
+sends p m = record { enabled = true; partner = p; action = Action.Send m }
 
 pub record LineCases : Type 0 where
   pub commands : (says "n 2" ≡ some (New 2))
       × (says "n 255" ≡ some (New 255))
-      × (says "o 0 1!r40970a3d" ≡ some (Offer 0 (sends 1 (Reading (ofBits binary32 0x40970a3d)) ∷ [])))
-      × (says "o 1 0?" ≡ some (Offer 1 (receives 0 ∷ [])))
-      × (says "o 0" ≡ some (Offer 0 []))
-      × (says "o 0 1!w-2147483648 2!0 3!l0000000180000000" ≡ some (Offer 0 (sends 1 (Whole (negℤ (pos 2147483648))) ∷ sends 2 Nothing ∷ sends 3 (Limit (ofBits binary32 1) (ofBits binary32 0x80000000)) ∷ [])))
-      × (says "o 0 -1?" ≡ some (Offer 0 (record { enabled = false; partner = 1; action = Receive } ∷ [])))
-      × (says "s 0" ≡ some (Step 0))
-      × (says "c 1" ≡ some (Collect 1))
+      × (says "o 0 1!r40970a3d" ≡ some (Do (Offer 0 (sends 1 (Message.Reading (ofBits binary32 0x40970a3d)) ∷ []))))
+      × (says "o 1 0?" ≡ some (Do (Offer 1 (receives 0 ∷ []))))
+      × (says "o 0" ≡ some (Do (Offer 0 [])))
+      × (says "o 0 1!w-2147483648 2!0 3!l0000000180000000" ≡ some (Do (Offer 0 (sends 1 (Message.Whole (negℤ (pos 2147483648))) ∷ sends 2 Message.Nothing ∷ sends 3 (Message.Limit (ofBits binary32 1) (ofBits binary32 0x80000000)) ∷ []))))
+      × (says "o 0 -1?" ≡ some (Do (Offer 0 (record { enabled = false; partner = 1; action = Action.Receive } ∷ []))))
+      × (says "s 0" ≡ some (Do (Step 0)))
+      × (says "c 1" ≡ some (Do (Collect 1)))
       × (says "m" ≡ some Movers)
   pub malformed : (says "n 256" ≡ none)
       × (says "n 02" ≡ none)

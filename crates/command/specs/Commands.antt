@@ -9,15 +9,7 @@ use lib.Dec.{eqb}
 use lib.Ieee.{binary32, ofBits}
 use Rattle.text.specs.Types.{_>>=_}
 use Rattle.text.specs.Reading.{isDigit, provided, byteNumber, whole, hexWord}
-use Rattle.command.specs.Types.{Message, Nothing, Whole, Reading, Limit, Action, Receive, Send, Guard}
-
--- "`n N` makes a desk; `o P G..` offers, with no guards or more; `s P` steps; `c P` collects; `m` prints movers."
-pub data Command : Type 0 where
-  New : ℕ → Command
-  Offer : ℕ → List Guard → Command
-  Step : ℕ → Command
-  Collect : ℕ → Command
-  Movers : Command
+use Rattle.command.specs.Types.{Message, Action, Guard, Offer, Step, Collect, Command, New, Do, Movers}
 
 -- b as the first byte of the first field
 abbrev pub putBefore : ℕ → List (List ℕ) → List (List ℕ)
@@ -35,51 +27,51 @@ isEmpty [] = true
 isEmpty (x ∷ xs) = false
 
 -- "`w` and a decimal of 32 bits signed": the bytes after the `w`
-unfoldable pub wholeOf : List ℕ → Option Message
-wholeOf bs = do
+unfoldable pub wholeIn : List ℕ → Option Message
+wholeIn bs = do
   n ← whole bs
-  some (Whole n)
+  some (Message.Whole n)
 
 -- "`r` and eight lower-case hexadecimal digits of the f32's bits". The bits of a NaN give the one NaN, which the offer refuses.
-unfoldable pub readingOf : List ℕ → Option Message
-readingOf bs = do
+unfoldable pub readingIn : List ℕ → Option Message
+readingIn bs = do
   bits ← hexWord bs
-  some (Reading (ofBits binary32 bits))
+  some (Message.Reading (ofBits binary32 bits))
 
 -- "`l` and sixteen such digits": eight for "low" and eight for "high"
-unfoldable pub limitOf : List ℕ → Option Message
-limitOf bs = do
+unfoldable pub limitIn : List ℕ → Option Message
+limitIn bs = do
   low ← hexWord (take 8 bs)
   high ← hexWord (drop 8 bs)
-  some (Limit (ofBits binary32 low) (ofBits binary32 high))
+  some (Message.Limit (ofBits binary32 low) (ofBits binary32 high))
 
 -- "a message: `0` nothing, `w` .., `r` .., `l` ..": the letter k, and the bytes after it
 unfoldable pub messageBy : ℕ → List ℕ → Option Message
 messageBy k bs =
-    cond (eqb k (code "0")) (provided (isEmpty bs) Nothing)
-    (cond (eqb k (code "w")) (wholeOf bs)
-    (cond (eqb k (code "r")) (readingOf bs)
-    (cond (eqb k (code "l")) (limitOf bs) none)))
+    cond (eqb k (code "0")) (provided (isEmpty bs) Message.Nothing)
+    (cond (eqb k (code "w")) (wholeIn bs)
+    (cond (eqb k (code "r")) (readingIn bs)
+    (cond (eqb k (code "l")) (limitIn bs) none)))
 
-unfoldable pub messageOf : List ℕ → Option Message
-messageOf [] = none
-messageOf (k ∷ bs) = messageBy k bs
+unfoldable pub messageIn : List ℕ → Option Message
+messageIn [] = none
+messageIn (k ∷ bs) = messageBy k bs
 
 -- "`!` with a message": the bytes after the `!`
-unfoldable pub sendOf : List ℕ → Option Action
-sendOf bs = do
-  m ← messageOf bs
-  some (Send m)
+unfoldable pub sendIn : List ℕ → Option Action
+sendIn bs = do
+  m ← messageIn bs
+  some (Action.Send m)
 
 -- "and then `?`, or `!` with a message"
 unfoldable pub actionBy : ℕ → List ℕ → Option Action
 actionBy k bs =
-    cond (eqb k (code "?")) (provided (isEmpty bs) Receive)
-    (cond (eqb k (code "!")) (sendOf bs) none)
+    cond (eqb k (code "?")) (provided (isEmpty bs) Action.Receive)
+    (cond (eqb k (code "!")) (sendIn bs) none)
 
-unfoldable pub actionOf : List ℕ → Option Action
-actionOf [] = none
-actionOf (k ∷ bs) = actionBy k bs
+unfoldable pub actionIn : List ℕ → Option Action
+actionIn [] = none
+actionIn (k ∷ bs) = actionBy k bs
 
 -- how many bytes at the start pass a test
 unfoldable pub leading : (ℕ → Bool) → List ℕ → ℕ
@@ -94,49 +86,49 @@ digitCount bs = leading isDigit bs
 unfoldable pub guardFrom : Bool → List ℕ → Option Guard
 guardFrom enabled bs = do
   partner ← byteNumber (take (digitCount bs) bs)
-  action ← actionOf (drop (digitCount bs) bs)
+  action ← actionIn (drop (digitCount bs) bs)
   some (record { enabled = enabled; partner = partner; action = action })
 
 -- "A guard is an optional `-` (disabled), the partner .., and then" the action
-unfoldable pub guardOf : List ℕ → Option Guard
-guardOf [] = none
-guardOf (b ∷ bs) = cond (eqb b (code "-")) (guardFrom false bs) (guardFrom true (b ∷ bs))
+unfoldable pub guardIn : List ℕ → Option Guard
+guardIn [] = none
+guardIn (b ∷ bs) = cond (eqb b (code "-")) (guardFrom false bs) (guardFrom true (b ∷ bs))
 
 -- "G..": "no guards or more", one in each field
-unfoldable pub guardsOf : List (List ℕ) → Option (List Guard)
-guardsOf [] = some []
-guardsOf (f ∷ fs) = do
-  g ← guardOf f
-  gs ← guardsOf fs
+unfoldable pub guardsIn : List (List ℕ) → Option (List Guard)
+guardsIn [] = some []
+guardsIn (f ∷ fs) = do
+  g ← guardIn f
+  gs ← guardsIn fs
   some (g ∷ gs)
 
 -- "N and P are decimal, 0 to 255, no leading zeros": the only field
-unfoldable pub numberOf : List (List ℕ) → Option ℕ
-numberOf [] = none
-numberOf (f ∷ []) = byteNumber f
-numberOf (f ∷ g ∷ fs) = none
+unfoldable pub numberIn : List (List ℕ) → Option ℕ
+numberIn [] = none
+numberIn (f ∷ []) = byteNumber f
+numberIn (f ∷ g ∷ fs) = none
 
 -- "`o P G..`": the fields after the letter
-unfoldable pub offerOf : List (List ℕ) → Option Command
-offerOf [] = none
-offerOf (f ∷ fs) = do
+unfoldable pub offerIn : List (List ℕ) → Option Command
+offerIn [] = none
+offerIn (f ∷ fs) = do
   p ← byteNumber f
-  gs ← guardsOf fs
-  some (Offer p gs)
+  gs ← guardsIn fs
+  some (Do (Offer p gs))
 
 -- "`n N`", "`s P`", "`c P`": the fields after the letter
 unfoldable pub numbered : (ℕ → Command) → List (List ℕ) → Option Command
 numbered make fs = do
-  n ← numberOf fs
+  n ← numberIn fs
   some (make n)
 
--- the letter k, and the fields after it
+-- "`n N` makes a desk; `o P G..` offers, with no guards or more; `s P` steps; `c P` collects; `m` prints movers.": the letter k, and the fields after it
 unfoldable pub byLetter : ℕ → List (List ℕ) → Option Command
 byLetter k fs =
     cond (eqb k (code "n")) (numbered New fs)
-    (cond (eqb k (code "o")) (offerOf fs)
-    (cond (eqb k (code "s")) (numbered Step fs)
-    (cond (eqb k (code "c")) (numbered Collect fs)
+    (cond (eqb k (code "o")) (offerIn fs)
+    (cond (eqb k (code "s")) (numbered (λ p. Do (Step p)) fs)
+    (cond (eqb k (code "c")) (numbered (λ p. Do (Collect p)) fs)
     (cond (eqb k (code "m")) (provided (isEmpty fs) Movers) none))))
 
 -- the first field is a letter, which is one byte

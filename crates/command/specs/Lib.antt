@@ -1,5 +1,5 @@
 pub mod Types
 pub mod Commands
-pub mod Form
+pub mod InCode
 pub mod Private
 pub mod Cases

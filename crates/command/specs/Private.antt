@@ -1,4 +1,4 @@
--- Not to be believed: forms that inner contracts cite; no contract of a public function does.
+-- Not to be believed: what inner contracts cite; no contract of a public function does.
 use Prim.Native.Nat.{ℕ}
 use Prim.Native.Char.{code}
 use mathlib.Core.Bool.{Bool, not}
@@ -8,9 +8,9 @@ use mathlib.Core.Option.{Option, some, none}
 use lib.Dec.{eqb}
 use Rattle.alternative.specs.Guards.{lent}
 use Rattle.text.specs.Types.{_>>=_}
-use Rattle.command.specs.Types.{Message, Action, Guard, GuardList, Kind, Parsed, ReadMessage, ReadAction, ReadGuard}
-use Rattle.command.specs.Commands.{Offer, fields, leading}
-use Rattle.command.specs.Form.{plain, asParsed}
+use Rattle.command.specs.Types.{Message, Action, Guard, GuardList, Offer, Do, Kind, Parsed, ReadMessage, ReadAction, ReadGuard}
+use Rattle.command.specs.Commands.{fields, leading}
+use Rattle.command.specs.InCode.{plain, asParsed}
 
 -- a command of one number
 abbrev pub asNumbered : Kind → Option ℕ → Parsed
@@ -21,7 +21,7 @@ asNumbered kind (some n) = plain kind n
 abbrev pub asOffer : ℕ → Option (List Guard) → Parsed
 asOffer p o = asParsed (do
   gs ← o
-  some (Offer p gs))
+  some (Do (Offer p gs)))
 
 -- what was read, if anything
 abbrev pub messageRead : ReadMessage → Option Message

@@ -8,13 +8,13 @@ use text::ByteNumber;
 use text::read_byte_number;
 ghost use mathlib.Core.Path.{_≡_};
 ghost use mathlib.Core.List.{[]};
-ghost use Rattle.command.specs.Commands.{fields, numberOf, byLetter, commandOf};
-ghost use Rattle.command.specs.Form.{asParsed};
+ghost use Rattle.command.specs.Commands.{fields, numberIn, byLetter, commandOf};
+ghost use Rattle.command.specs.InCode.{asParsed};
 ghost use Rattle.command.specs.Private.{asNumbered};
 
 // A command of one number, which is the only field after the letter.
 fn parse_numbered(kind: Kind, s: &[u8]) -> Parsed
-    ensures { λ r. ⌜ r ≡ asNumbered kind (numberOf (fields (now (s .entry)))) ⌝ }
+    ensures { λ r. ⌜ r ≡ asNumbered kind (numberIn (fields (now (s .entry)))) ⌝ }
 {
     if field_length(s) < s.len() {
         return plain_command(Kind::Malformed, 0);

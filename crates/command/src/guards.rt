@@ -9,12 +9,12 @@ use text::ByteNumber;
 use text::is_digit;
 use text::read_byte_number;
 ghost use mathlib.Core.Path.{_≡_};
-ghost use Rattle.command.specs.Commands.{sendOf, actionOf, digitCount, guardFrom, guardOf};
+ghost use Rattle.command.specs.Commands.{sendIn, actionIn, digitCount, guardFrom, guardIn};
 ghost use Rattle.command.specs.Private.{actionRead, guardRead};
 
 // The bytes after a `!`.
 fn send_action(s: &[u8]) -> ReadAction
-    ensures { λ r. ⌜ actionRead r ≡ sendOf (now (s .entry)) ⌝ }
+    ensures { λ r. ⌜ actionRead r ≡ sendIn (now (s .entry)) ⌝ }
 {
     match read_message(s) {
         ReadMessage::Malformed => ReadAction::Malformed,
@@ -24,7 +24,7 @@ fn send_action(s: &[u8]) -> ReadAction
 
 // An action by its sign.
 fn read_action(s: &[u8]) -> ReadAction
-    ensures { λ r. ⌜ actionRead r ≡ actionOf (now (s .entry)) ⌝ }
+    ensures { λ r. ⌜ actionRead r ≡ actionIn (now (s .entry)) ⌝ }
 {
     let n = s.len();
     if n == 0 {
@@ -81,7 +81,7 @@ fn guard_from(enabled: bool, s: &[u8]) -> ReadGuard
 
 // A guard: all bytes of its field.
 pub fn read_guard(s: &[u8]) -> ReadGuard
-    ensures { λ r. ⌜ guardRead r ≡ guardOf (now (s .entry)) ⌝ }
+    ensures { λ r. ⌜ guardRead r ≡ guardIn (now (s .entry)) ⌝ }
 {
     if s.len() == 0 {
         return ReadGuard::Malformed;

@@ -6,7 +6,7 @@ use alternative::Message;
 use lists::no_guards;
 ghost use mathlib.Core.Path.{_≡_};
 ghost use Rattle.command.specs.Cases.{LineCases};
-ghost use Rattle.command.specs.Form.{plain};
+ghost use Rattle.command.specs.InCode.{plain};
 
 mod commands;
 mod fields;
@@ -36,7 +36,7 @@ pub struct Parsed {
 }
 
 // A command without guards.
-fn plain_command(kind: Kind, number: u8) -> Parsed
+pub fn plain_command(kind: Kind, number: u8) -> Parsed
     ensures { λ r. ⌜ r ≡ plain kind number ⌝ }
 {
     let list = no_guards();

@@ -7,12 +7,12 @@ use text::Whole;
 use text::read_hex_word;
 use text::read_whole;
 ghost use mathlib.Core.Path.{_≡_};
-ghost use Rattle.command.specs.Commands.{wholeOf, readingOf, limitOf, messageOf};
+ghost use Rattle.command.specs.Commands.{wholeIn, readingIn, limitIn, messageIn};
 ghost use Rattle.command.specs.Private.{messageRead};
 
 // The bytes after a `w`.
 fn whole_message(s: &[u8]) -> ReadMessage
-    ensures { λ r. ⌜ messageRead r ≡ wholeOf (now (s .entry)) ⌝ }
+    ensures { λ r. ⌜ messageRead r ≡ wholeIn (now (s .entry)) ⌝ }
 {
     match read_whole(s) {
         Whole::Malformed => ReadMessage::Malformed,
@@ -22,7 +22,7 @@ fn whole_message(s: &[u8]) -> ReadMessage
 
 // The bytes after an `r`.
 fn reading_message(s: &[u8]) -> ReadMessage
-    ensures { λ r. ⌜ messageRead r ≡ readingOf (now (s .entry)) ⌝ }
+    ensures { λ r. ⌜ messageRead r ≡ readingIn (now (s .entry)) ⌝ }
 {
     match read_hex_word(s) {
         Number::Malformed => ReadMessage::Malformed,
@@ -32,7 +32,7 @@ fn reading_message(s: &[u8]) -> ReadMessage
 
 // The bytes after an `l`: eight digits, and eight more that end it.
 fn limit_message(s: &[u8]) -> ReadMessage
-    ensures { λ r. ⌜ messageRead r ≡ limitOf (now (s .entry)) ⌝ }
+    ensures { λ r. ⌜ messageRead r ≡ limitIn (now (s .entry)) ⌝ }
 {
     if s.len() < 8 {
         return ReadMessage::Malformed;
@@ -50,7 +50,7 @@ fn limit_message(s: &[u8]) -> ReadMessage
 
 // A message by its letter.
 pub fn read_message(s: &[u8]) -> ReadMessage
-    ensures { λ r. ⌜ messageRead r ≡ messageOf (now (s .entry)) ⌝ }
+    ensures { λ r. ⌜ messageRead r ≡ messageIn (now (s .entry)) ⌝ }
 {
     let n = s.len();
     if n == 0 {

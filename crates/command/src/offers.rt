@@ -10,13 +10,13 @@ use crate::plain_command;
 use text::ByteNumber;
 use text::read_byte_number;
 ghost use mathlib.Core.Path.{_≡_};
-ghost use Rattle.command.specs.Commands.{fields, guardsOf, offerOf};
-ghost use Rattle.command.specs.Form.{asParsed};
+ghost use Rattle.command.specs.Commands.{fields, guardsIn, offerIn};
+ghost use Rattle.command.specs.InCode.{asParsed};
 ghost use Rattle.command.specs.Private.{asOffer, fieldsAfter};
 
 // An offer by p. The bytes start where the field of p ends: at a space, or at the line's end.
 fn offer_of(p: u8, s: &[u8]) -> Parsed
-    ensures { λ r. ⌜ r ≡ asOffer p (guardsOf (fieldsAfter (now (s .entry)))) ⌝ }
+    ensures { λ r. ⌜ r ≡ asOffer p (guardsIn (fieldsAfter (now (s .entry)))) ⌝ }
 {
     let mut list = no_guards();
     let mut at = 0;
@@ -42,7 +42,7 @@ fn offer_of(p: u8, s: &[u8]) -> Parsed
 
 // The bytes after `o` and a space: `P G..`.
 pub fn parse_offer(s: &[u8]) -> Parsed
-    ensures { λ r. ⌜ r ≡ asParsed (offerOf (fields (now (s .entry)))) ⌝ }
+    ensures { λ r. ⌜ r ≡ asParsed (offerIn (fields (now (s .entry)))) ⌝ }
 {
     let end = field_length(s);
     match read_byte_number(&s[..end]) {

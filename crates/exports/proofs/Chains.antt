@@ -7,10 +7,10 @@ use lib.ListN.{take, drop}
 use lib.Seq.{take-append-seam}
 use Rattle.script.specs.Feeding.{start, fed, fedPieces}
 use Rattle.script.proofs.Cuts.{pieces-hold}
-use Rattle.exports.specs.Scripts.{stateIn, Feeds, Call, takenBy, filledBy, Chained, leftBy, ByCalls}
+use Rattle.exports.specs.Scripts.{stateIn, Feeds, Feeding, takenBy, filledBy, Chained, leftBy, ByCalls}
 
 -- what a call prints, and the state that it leaves
-module _ (state : List ℕ) (c : Call) (f : Feeds state (c .piece) (c .after) (c .out) (c .after′) (c .out′) (c .taken) (c .filled) true) where
+module _ (state : List ℕ) (c : Feeding) (f : Feeds state (c .piece) (c .after) (c .out) (c .after′) (c .out′) (c .taken) (c .filled) true) where
   prints-one : filledBy c ≡ fed (stateIn state) (takenBy c) .prints
   prints-one =
       let p : List ℕ = fed (stateIn state) (takenBy c) .prints in
@@ -19,12 +19,12 @@ module _ (state : List ℕ) (c : Call) (f : Feeds state (c .piece) (c .after) (c
   leaves-one : stateIn (c .after′) ≡ fed (stateIn state) (takenBy c) .state
   leaves-one = f .keeps .read-back refl
 
-prints-all : (state : List ℕ) (cs : List Call) → Chained state cs → flatten (map filledBy cs) ≡ fedPieces (stateIn state) (map takenBy cs) .prints
+prints-all : (state : List ℕ) (cs : List Feeding) → Chained state cs → flatten (map filledBy cs) ≡ fedPieces (stateIn state) (map takenBy cs) .prints
 unfolding fedPieces Chained flatten
 prints-all state [] h = refl
 prints-all state (c ∷ cs) h = rw (prints-one state c (h .0), ← (leaves-one state c (h .0)), prints-all (c .after′) cs (h .1))
 
-leaves-all : (state : List ℕ) (cs : List Call) → Chained state cs → stateIn (leftBy state cs) ≡ fedPieces (stateIn state) (map takenBy cs) .state
+leaves-all : (state : List ℕ) (cs : List Feeding) → Chained state cs → stateIn (leftBy state cs) ≡ fedPieces (stateIn state) (map takenBy cs) .state
 unfolding fedPieces Chained leftBy
 leaves-all state [] h = refl
 leaves-all state (c ∷ cs) h = rw (← (leaves-one state c (h .0))) (leaves-all (c .after′) cs (h .1))

@@ -1,4 +1,4 @@
 pub mod Chains
-pub mod Forms
+pub mod Giving
 pub mod Sessions
 pub mod Ways

@@ -1,16 +1,17 @@
--- To be believed. What an exported call hands back: the table in its byte form, the answer in a form of 16 bytes, and whether the table given and both buffers were long enough.
+-- To be believed. What an exported call hands back: the bytes of the table, those of the answer, and whether the table given and both buffers were long enough.
 use Rattle.rendezvous.specs.Numbers.{Said, said, made, ticket, place, same, outcome, movers, refusal}
 use Rattle.wire.specs.Claims.{Faithful}
-use Rattle.wire.specs.Writing.{wordBytes, messageBytes, tableLength, bytesOf}
-use Rattle.exports.specs.Types.{ℕ, _≡_, Bool, true, _&&_, cond, List, [], _∷_, _++_, Option, some, none, length, drop, leb, Message, Nothing, Reply}
+use Rattle.wire.specs.Layout.{tableLength}
+use Rattle.wire.specs.Writing.{wordBytes, messageBytes, bytesOf}
+use Rattle.exports.specs.Layout.{answerLength}
+use Rattle.exports.specs.Types.{ℕ, _≡_, Bool, true, _&&_, cond, List, [], _∷_, _++_, flatten, Option, some, none, length, drop, leb, Message, Reply}
 
--- the kind of answer, two bytes, a message, a word
-abbrev pub answerForm : ℕ → ℕ → ℕ → Message → ℕ → List ℕ
-answerForm kind a b m word = (kind ∷ a ∷ b ∷ []) ++ messageBytes m ++ wordBytes word
+-- the kind of answer and two bytes, a message, a word
+abbrev pub answerParts : ℕ → ℕ → ℕ → Message → ℕ → List (List ℕ)
+answerParts kind a b m word = (kind ∷ a ∷ b ∷ []) ∷ messageBytes m ∷ wordBytes word ∷ []
 
--- how long it is
-abbrev pub answerLength : ℕ
-answerLength = 16
+abbrev pub laidOut : ℕ → ℕ → ℕ → Message → ℕ → List ℕ
+laidOut kind a b m word = flatten (answerParts kind a b m word)
 
 -- a guard index, 0 where there is none
 abbrev pub indexByte : Option ℕ → ℕ
@@ -20,20 +21,20 @@ indexByte (some i) = i
 -- By document 01's numbers and letters: a step's place by its letter and its guard index; an outcome by guard index, partner and message; a
 -- refusal by its number; a ticket and the set of movers as the word.
 abbrev pub saidBytes : Said → List ℕ
-saidBytes made = answerForm 0 0 0 Nothing 0
-saidBytes (ticket t) = answerForm 1 0 0 Nothing t
-saidBytes (place letter index) = answerForm 2 letter (indexByte index) Nothing 0
-saidBytes same = answerForm 3 0 0 Nothing 0
-saidBytes (outcome i q m) = answerForm 4 i q m 0
-saidBytes (movers set) = answerForm 5 0 0 Nothing set
-saidBytes (refusal number) = answerForm 6 number 0 Nothing 0
+saidBytes made = laidOut 0 0 0 Message.Nothing 0
+saidBytes (ticket t) = laidOut 1 0 0 Message.Nothing t
+saidBytes (place letter index) = laidOut 2 letter (indexByte index) Message.Nothing 0
+saidBytes same = laidOut 3 0 0 Message.Nothing 0
+saidBytes (outcome i q m) = laidOut 4 i q m 0
+saidBytes (movers set) = laidOut 5 0 0 Message.Nothing set
+saidBytes (refusal number) = laidOut 6 number 0 Message.Nothing 0
 
 -- whether bytes are enough for a table
 abbrev pub isTable : List ℕ → Bool
 isTable bytes = leb tableLength (length bytes)
 
 -- The buffers as they were and as they are left, and what the call returns: whether the table that it reads (`read`) and both buffers are long enough. If one of them is not,
--- nothing is written at all; else each form stands at the front of its buffer, and the next call reads the bytes as the very table that this one hands back.
+-- nothing is written at all; else the bytes stand at the front of each buffer, and the next call reads the bytes as the very table that this one hands back.
 pub record Gives (read : Bool) (reply : Reply) (table answer table′ answer′ : List ℕ) (whole : Bool) : Type 0 where
   pub enough : whole ≡ (read && isTable table && leb answerLength (length answer))
   pub table-given : table′ ≡ cond whole (bytesOf (reply .table) ++ drop tableLength table) table

@@ -1,4 +1,5 @@
 pub mod Types
+pub mod Layout
 pub mod Answers
 pub mod Scripts
 pub mod Private

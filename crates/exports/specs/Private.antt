@@ -1,21 +1,24 @@
--- Not to be believed: forms that inner contracts cite, of the table that messages go by way of for a test of their bits.
-use Rattle.alternative.specs.Guards.{blank}
+-- Not to be believed: what inner contracts cite, of the table that messages go by way of for a test of their bits.
+use Rattle.alternative.specs.Guards.{mostGuards, blank}
 use Rattle.process.specs.Process.{freshProcess}
-use Rattle.exports.specs.Types.{ℕ, true, List, _∷_, replicate, Message, Nothing, Action, Guard, Place, Trying, Absent, Process, ProcessTable, Answer, Made, Offered, Moved, Unchanged, Collected, Runnable}
+use Rattle.rendezvous.specs.Table.{mostProcesses, freshHead, withNext}
+use Rattle.exports.specs.Types.{ℕ, _-_, true, List, _∷_, replicate, Message, Action, Guard, Signal, Place, Process, ProcessTable, Answer}
 
 abbrev pub onOther : ℕ → Action → Place → Process
 onOther partner action place =
-    let guards : List Guard = record { enabled = true; partner = partner; action = action } ∷ replicate 7 blank in
-    record { place = place; signal = Absent; transaction = record { 0 = 0 }; accepting = true; count = 1; altcount = 1; guards = guards; altlist = guards }
+    let guards : List Guard = record { enabled = true; partner = partner; action = action } ∷ replicate (mostGuards - 1) blank in
+    record { place = place; signal = Signal.Absent; transaction = record { 0 = 0 }; accepting = true; count = 1; altcount = 1; guards = guards; altlist = guards }
 
 abbrev pub facing : Place → Action → Action → ProcessTable
-facing place first second = record { n = 2; next = record { 0 = 2 }; processes = onOther 1 first place ∷ onOther 0 second (Trying 0) ∷ replicate 30 freshProcess }
+facing place first second =
+    let processes = onOther 1 first place ∷ onOther 0 second (Place.Trying 0) ∷ replicate (mostProcesses - 2) freshProcess in
+    record { head = withNext (freshHead 2) 2; processes = processes }
 
 abbrev pub collectedOf : Answer → Message
-collectedOf (Collected i q m) = m
-collectedOf Made = Nothing
-collectedOf (Offered t) = Nothing
-collectedOf (Moved place) = Nothing
-collectedOf Unchanged = Nothing
-collectedOf (Runnable set) = Nothing
-collectedOf (Answer.Refused r) = Nothing
+collectedOf (Answer.Collected i q m) = m
+collectedOf Answer.Made = Message.Nothing
+collectedOf (Answer.Offered t) = Message.Nothing
+collectedOf (Answer.Moved place) = Message.Nothing
+collectedOf Answer.Unchanged = Message.Nothing
+collectedOf (Answer.Runnable set) = Message.Nothing
+collectedOf (Answer.Refused r) = Message.Nothing

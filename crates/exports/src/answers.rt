@@ -1,4 +1,5 @@
 // What a call hands back, in bytes.
+use crate::layout;
 use alternative::Message;
 use process::Place;
 use rendezvous::Answer;
@@ -11,18 +12,18 @@ use wire::word_bytes;
 ghost use mathlib.Core.Path.{_≡_};
 ghost use Rattle.rendezvous.specs.Numbers.{said};
 ghost use Rattle.process.specs.Process.{indexOf};
-ghost use Rattle.exports.specs.Answers.{answerForm, indexByte, saidBytes, isTable, Gives};
+ghost use Rattle.exports.specs.Answers.{laidOut, indexByte, saidBytes, isTable, Gives};
 
-fn answer_form(kind: u8, a: u8, b: u8, m: Message, word: u32) -> [u8; 16]
-    ensures { λ r. ⌜ r ≡ answerForm kind a b m word ⌝ }
+fn laid_out(kind: u8, a: u8, b: u8, m: Message, word: u32) -> [u8; layout::ANSWER_BYTES]
+    ensures { λ r. ⌜ r ≡ laidOut kind a b m word ⌝ }
 {
-    let mut out = [0u8; 16];
+    let mut out = [0u8; layout::ANSWER_BYTES];
     let three = [kind, a, b];
     put_bytes(&mut out, 0, &three);
     let message = message_bytes(m);
-    put_bytes(&mut out, 3, &message);
+    put_bytes(&mut out, layout::MESSAGE_AT, &message);
     let number = word_bytes(word);
-    put_bytes(&mut out, 12, &number);
+    put_bytes(&mut out, layout::WORD_AT, &number);
     out
 }
 
@@ -45,23 +46,23 @@ fn place_index(place: Place) -> u8
     }
 }
 
-fn answer_bytes(answer: Answer) -> [u8; 16]
+fn answer_bytes(answer: Answer) -> [u8; layout::ANSWER_BYTES]
     ensures { λ r. ⌜ r ≡ saidBytes (said answer) ⌝ }
 {
     match answer {
-        Answer::Made => answer_form(0, 0, 0, Message::Nothing, 0),
-        Answer::Offered(ticket) => answer_form(1, 0, 0, Message::Nothing, ticket.0),
-        Answer::Moved(place) => answer_form(
+        Answer::Made => laid_out(0, 0, 0, Message::Nothing, 0),
+        Answer::Offered(ticket) => laid_out(1, 0, 0, Message::Nothing, ticket.0),
+        Answer::Moved(place) => laid_out(
             2,
             place.letter(),
             place_index(place),
             Message::Nothing,
             0,
         ),
-        Answer::Unchanged => answer_form(3, 0, 0, Message::Nothing, 0),
-        Answer::Collected(i, q, m) => answer_form(4, i, q, m, 0),
-        Answer::Runnable(set) => answer_form(5, 0, 0, Message::Nothing, set),
-        Answer::Refused(refusal) => answer_form(6, refusal.number(), 0, Message::Nothing, 0),
+        Answer::Unchanged => laid_out(3, 0, 0, Message::Nothing, 0),
+        Answer::Collected(i, q, m) => laid_out(4, i, q, m, 0),
+        Answer::Runnable(set) => laid_out(5, 0, 0, Message::Nothing, set),
+        Answer::Refused(refusal) => laid_out(6, refusal.number(), 0, Message::Nothing, 0),
     }
 }
 
@@ -76,14 +77,14 @@ pub fn is_table(bytes: &[u8]) -> bool
 pub fn give(read: bool, reply: Reply, table: &mut [u8], answer: &mut [u8]) -> bool
     ensures { λ r. ⌜ Gives read reply (now (table .entry)) (now (answer .entry)) (now (table .exit)) (now (answer .exit)) r ⌝ }
 {
-    let whole = read & (TABLE_BYTES <= table.len()) & (16 <= answer.len());
+    let whole = read & (TABLE_BYTES <= table.len()) & (layout::ANSWER_BYTES <= answer.len());
     if !whole {
         return false;
     }
     let t = reply.table;
     let a = reply.answer;
     encode(t, table);
-    let form = answer_bytes(a);
-    put_bytes(answer, 0, &form);
+    let said = answer_bytes(a);
+    put_bytes(answer, 0, &said);
     true
 }

@@ -1,24 +1,26 @@
-// Every call for programs in other languages: a table, or a session of the script program, goes in and comes back in its byte form,
-// numbers go as they are. No call asks anything of its arguments: any bytes that are enough are a table or a session, and a table may be
-// damaged. A call on too few bytes, or with a buffer that is too short, does nothing.
+// Every call for programs in other languages: a table, or a session of the script program, goes in and comes back as bytes, numbers go
+// as they are. No call asks anything of its arguments: any bytes that are enough are a table or a session, and a table may be damaged.
+// A call on too few bytes, or with a buffer that is too short, does nothing.
 use rendezvous::ProcessTable;
 use wire::decode;
 use wire::offer_of;
 ghost use mathlib.Core.Path.{_≡_};
 ghost use mathlib.Core.Bool.{true};
-ghost use Rattle.rendezvous.specs.Calls.{create, offer, step, collect, runnable};
+ghost use Rattle.rendezvous.specs.Calls.{create, offer, step, collect};
+ghost use Rattle.rendezvous.specs.Movers.{runnable};
 ghost use Rattle.wire.specs.Reading.{tableOf, offerOf};
 ghost use Rattle.script.specs.Feeding.{start};
+ghost use Rattle.exports.specs.Layout.{AnswerAndSession};
 ghost use Rattle.exports.specs.Answers.{isTable, Gives};
-ghost use Rattle.exports.specs.Scripts.{Keeps, Feeds, Finishes, ByCalls};
+ghost use Rattle.exports.specs.Scripts.{Stored, Feeds, Finishes, ByCalls};
 
 mod answers;
+mod layout;
 mod scripts;
 mod through;
 
 use answers::give;
 use answers::is_table;
-use scripts::SESSION_BYTES;
 use scripts::put_session;
 use scripts::put_text;
 use scripts::session_in;
@@ -36,7 +38,7 @@ pub extern "C" fn rendezvous_create(n: u8, out: &mut [u8], answer: &mut [u8]) ->
     give(true, ProcessTable::create(n), out, answer)
 }
 
-// An offer by process p. `guards` holds twelve bytes for each guard, of any number of them.
+// An offer by process p. `guards` holds the bytes of any number of guards.
 #[no_mangle]
 pub extern "C" fn rendezvous_offer(
     table: &[u8],
@@ -83,12 +85,12 @@ pub extern "C" fn rendezvous_runnable(table: &[u8], out: &mut [u8], answer: &mut
 // A session of the script program before its first byte.
 #[no_mangle]
 pub extern "C" fn rendezvous_script_start(state: &mut [u8]) -> bool
-    ensures { λ r. ⌜ Keeps true start (now (state .entry)) (now (state .exit)) r ⌝ }
+    ensures { λ r. ⌜ Stored true start (now (state .entry)) (now (state .exit)) r ⌝ }
 {
     put_session(script::start(), state)
 }
 
-// Feeds a piece of the input: as many of its bytes as `out` has room for, 64 bytes each. `taken` and `filled` are set to how many were taken
+// Feeds a piece of the input: as many of its bytes as `out` has room for, a line for each. `taken` and `filled` are set to how many were taken
 // and how many bytes their lines print to the front of `out`: none and none if a session is too short.
 #[no_mangle]
 pub extern "C" fn rendezvous_script_feed(
@@ -101,7 +103,7 @@ pub extern "C" fn rendezvous_script_feed(
 ) -> bool
     ensures { λ r. ⌜ Feeds (now (state .entry)) (now (piece .entry)) (now (after .entry)) (now (out .entry)) (now (after .exit)) (now (out .exit)) (now (taken .exit)) (now (filled .exit)) r ⌝ }
 {
-    let whole = (SESSION_BYTES <= state.len()) & (SESSION_BYTES <= after.len());
+    let whole = (layout::SESSION_BYTES <= state.len()) & (layout::SESSION_BYTES <= after.len());
     if !whole {
         *taken = 0;
         *filled = 0;
@@ -115,18 +117,23 @@ pub extern "C" fn rendezvous_script_feed(
     put_session(next, after)
 }
 
-// What the end of the input prints, to the front of `out`, and how many bytes that is; nothing if `out` has less than 64 bytes, or if the
+// What the end of the input prints, to the front of `out`, and how many bytes that is; nothing if `out` has no room for a line, or if the
 // session is too short.
 #[no_mangle]
 pub extern "C" fn rendezvous_script_finish(state: &[u8], out: &mut [u8]) -> usize
     ensures { λ r. ⌜ Finishes (now (state .entry)) (now (out .entry)) (now (out .exit)) r ⌝ }
 {
-    if state.len() < SESSION_BYTES {
+    if state.len() < layout::SESSION_BYTES {
         return 0;
     }
     let session = session_in(state);
     put_text(script::finish(session), out)
 }
+
+// Carries how long the bytes of an answer and of a session are.
+pub fn byte_lengths()
+    ensures { λ _. ⌜ AnswerAndSession ⌝ }
+{}
 
 // Carries that a session which goes from call to call as bytes prints the whole output.
 pub fn script_by_calls()

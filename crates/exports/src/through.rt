@@ -12,7 +12,10 @@ use process::Signal;
 use process::TransactionId;
 use process::fresh_process;
 use rendezvous::Answer;
+use rendezvous::MOST_PROCESSES;
 use rendezvous::ProcessTable;
+use rendezvous::fresh_head;
+use wire::SLOTS;
 ghost use mathlib.Core.Path.{_≡_};
 ghost use Rattle.rendezvous.specs.Calls.{step};
 ghost use Rattle.exports.specs.Private.{facing, onOther, collectedOf};
@@ -22,7 +25,7 @@ fn on_other(partner: u8, action: Action, place: Place) -> Process
     ensures { λ r. ⌜ r ≡ onOther partner action place ⌝ }
 {
     let blank = blank_guard();
-    let mut guards = [blank; 8];
+    let mut guards = [blank; SLOTS];
     guards[0] = Guard {
         enabled: true,
         partner: partner,
@@ -46,12 +49,14 @@ fn facing_table(place: Place, first: Action, second: Action) -> ProcessTable
     ensures { λ r. ⌜ r ≡ facing place first second ⌝ }
 {
     let fresh = fresh_process();
-    let mut processes = [fresh; 32];
+    let mut processes = [fresh; MOST_PROCESSES as usize];
     processes[0] = on_other(1, first, place);
     processes[1] = on_other(0, second, Place::Trying(0));
+    let next = TransactionId(2);
+    let mut head = fresh_head(2);
+    head.next = next;
     ProcessTable {
-        n: 2,
-        next: TransactionId(2),
+        head: head,
         processes: processes,
     }
 }
@@ -76,7 +81,7 @@ fn refused_to(table: ProcessTable) -> ProcessTable
     ensures { λ r. ⌜ r ≡ table ⌝ }
 {
     let blank = blank_guard();
-    let guards = [blank; 8];
+    let guards = [blank; SLOTS];
     let list = GuardList {
         count: 0,
         guards: guards,

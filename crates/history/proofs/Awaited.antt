@@ -3,15 +3,14 @@ use Prim.Native.Nat.{ℕ}
 use mathlib.Core.Path.{_≡_, refl, sym, subst, subst⁻¹}
 use mathlib.Core.Bool.{false}
 use Rattle.alternative.specs.declared.Message.{Message}
-use Rattle.process.specs.declared.Signal.the-variants.{Present}
 use Rattle.process.specs.declared.Place.{Place}
-use Rattle.process.specs.declared.Place.the-variants.{Trying, Committed, Met}
 use Rattle.process.specs.declared.Process.{Process}
 use Rattle.process.specs.Process.{ownGuard}
 use Rattle.process.specs.Rules.{atPlace, withSignal, withAccepting}
 use Rattle.history.proofs.View.{View, upd, upd-same, upd-other, upd-comm, entered-each}
 use Rattle.history.proofs.Invariant.{Commits, Shows, Bound}
 use Rattle.history.proofs.Places.{shows-elim, absent-present}
+use Rattle.process.specs.declared.Signal.{Signal}
 use Rattle.history.proofs.Tame.{Held}
 
 abbrev pub Awaited : View → Type 0
@@ -37,34 +36,34 @@ idle-shows pl i j = shows-elim (λ at. Commits at i j → ⊥) (λ c. c) (λ c. 
 
 module _ (v : View) (a : Awaited v) (p q i j : ℕ) (ne : p ≡ q → ⊥) (names : ownGuard (v p) i .partner ≡ q) (shows : Shows (v q .place)) where
   -- rule 7: the mover first, so that the partner is bound by it
-  pub awaited-commit : v p .place ≡ Trying i → Awaited (upd (upd v q (withAccepting (v q) false)) p (atPlace (v p) (Committed i j)))
-  awaited-commit e = subst⁻¹ Awaited (upd-comm v p q (atPlace (v p) (Committed i j)) (withAccepting (v q) false) ne)
+  pub awaited-commit : v p .place ≡ Place.Trying i → Awaited (upd (upd v q (withAccepting (v q) false)) p (atPlace (v p) (Place.Committed i j)))
+  awaited-commit e = subst⁻¹ Awaited (upd-comm v p q (atPlace (v p) (Place.Committed i j)) (withAccepting (v q) false) ne)
       (awaited-put u (awaited-put v a p _ (λ b. absurd (b .shows)) (λ k l c _. rw e at c)) q _
       (λ _. record { by = p; at = i; kept = j; other = ne; there = rw up (refl, refl); names = rw up names })
       (λ k l c _. idle-shows (v q .place) k l shows (rw uq at c)))
     where
       u : View
-      u = upd v p (atPlace (v p) (Committed i j))
+      u = upd v p (atPlace (v p) (Place.Committed i j))
 
-      up : u p ≡ atPlace (v p) (Committed i j)
+      up : u p ≡ atPlace (v p) (Place.Committed i j)
       up = upd-same v p _
 
       uq : u q ≡ v q
       uq = upd-other v p _ q (λ z. ne (sym z))
 
   -- rule 9: the partner first, so that the mover's commit binds nobody any more
-  pub awaited-signal : v p .place ≡ Committed i j → (m k : Message) → Awaited (upd (upd v q (withSignal (v q) (Present j k))) p (atPlace (v p) (Met i m)))
+  pub awaited-signal : v p .place ≡ Place.Committed i j → (m k : Message) → Awaited (upd (upd v q (withSignal (v q) (Signal.Present j k))) p (atPlace (v p) (Place.Met i m)))
   awaited-signal e m k =
       awaited-put u (awaited-put v a q _ (λ b. absurd (absent-present _ j k (b .deaf) refl)) (λ r l c _. idle-shows (v q .place) r l shows c)) p _
       (λ b. absurd (b .shows))
-      (λ r l c b. let c' : Commits (Committed i j) r l = rw (up, e) at c in
+      (λ r l c b. let c' : Commits (Place.Committed i j) r l = rw (up, e) at c in
       absent-present _ j k (subst (λ (y : Process). Bound y) (told r (c' .0)) b .deaf) refl)
     where
       u : View
-      u = upd v q (withSignal (v q) (Present j k))
+      u = upd v q (withSignal (v q) (Signal.Present j k))
 
       up : u p ≡ v p
       up = upd-other v q _ p ne
 
-      told : (r : ℕ) → i ≡ r → u (ownGuard (u p) r .partner) ≡ withSignal (v q) (Present j k)
+      told : (r : ℕ) → i ≡ r → u (ownGuard (u p) r .partner) ≡ withSignal (v q) (Signal.Present j k)
       told r z = rw (← z, up, names) (upd-same v q _)

@@ -9,25 +9,21 @@ use Rattle.alternative.specs.declared.Guard.{Guard}
 use Rattle.alternative.specs.Guards.{blank}
 use Rattle.alternative.specs.Exchange.{sentBy, receivedBy}
 use Rattle.process.specs.declared.Signal.{Signal}
-use Rattle.process.specs.declared.Signal.the-variants.{Absent, Present}
 use Rattle.process.specs.declared.Place.{Place}
-use Rattle.process.specs.declared.Place.the-variants.{Idle, Entering, Scanning, Trying, Committed, Posting, Opening, Showing, Asleep, Waiting, Met}
 use Rattle.process.specs.declared.Process.{Process}
 use Rattle.rendezvous.specs.declared.ProcessTable.{ProcessTable}
-use Rattle.process.specs.Process.{ownList, ownGuard, openAt, isOpen}
+use Rattle.process.specs.Process.{ifMet, ifCommitted, ownList, ownGuard, openAt, isOpen}
 use Rattle.rendezvous.specs.Table.{process}
 use Rattle.history.specs.Book.{Transaction, Due, History}
+use Rattle.history.specs.Tables.{offerBy}
 use Rattle.history.specs.NothingLost.{isOwed, isDue}
 use Rattle.history.proofs.View.{View, upd, entered-each}
 use Rattle.history.proofs.Once.{Once}
 use Rattle.history.proofs.Awaited.{Awaited}
 
--- the offer of a process with record x, and if it is open
-abbrev pub offerOf : Process → Transaction
-offerOf x = record { id = x .transaction .0; guards = ownList x }
-
+-- the open offer of a process with record x
 abbrev pub openOf : Process → Option Transaction
-openOf x = cond (isOpen x) (some (offerOf x)) none
+openOf x = cond (isOpen x) (some (offerBy x)) none
 
 -- the lists that the processes offer
 abbrev pub listsOf : View → ℕ → List Guard
@@ -40,22 +36,14 @@ pub record Pledged (lists : ℕ → List Guard) (due : ℕ → Option Due) (p i 
 
 -- due by the place of p, whose own list is gs; at the other places nothing is asked
 abbrev pub DueAt : (ℕ → List Guard) → (ℕ → Option Due) → ℕ → List Guard → Place → Type 0
-DueAt lists due p gs Idle = Unit {0}
-DueAt lists due p gs Entering = Unit {0}
-DueAt lists due p gs (Scanning i) = Unit {0}
-DueAt lists due p gs (Trying i) = Unit {0}
-DueAt lists due p gs (Committed i j) = Pledged lists due p i (getD gs i blank) j
-DueAt lists due p gs Posting = Unit {0}
-DueAt lists due p gs Opening = Unit {0}
-DueAt lists due p gs Showing = Unit {0}
-DueAt lists due p gs Asleep = Unit {0}
-DueAt lists due p gs Waiting = Unit {0}
-DueAt lists due p gs (Met i m) = due p ≡ some (record { index = i; partner = getD gs i blank .partner; message = m })
+DueAt lists due p gs place = ifCommitted
+    (ifMet (Unit {0}) (λ i m. due p ≡ some (record { index = i; partner = getD gs i blank .partner; message = m })) place)
+    (λ i j. Pledged lists due p i (getD gs i blank) j) place
 
 -- due by a signal
 abbrev pub DueBy : List Guard → Signal → Option Due → Type 0
-DueBy gs Absent d = Unit {0}
-DueBy gs (Present j m) d = d ≡ some (record { index = j; partner = getD gs j blank .partner; message = m })
+DueBy gs Signal.Absent d = Unit {0}
+DueBy gs (Signal.Present j m) d = d ≡ some (record { index = j; partner = getD gs j blank .partner; message = m })
 
 -- a book and process p with record x, among lists of the processes
 pub record Agrees (lists : ℕ → List Guard) (b : History) (p : ℕ) (x : Process) : Type 0 where
@@ -64,15 +52,15 @@ pub record Agrees (lists : ℕ → List Guard) (b : History) (p : ℕ) (x : Proc
   pub at : DueAt lists (b .due) p (ownList x) (x .place)
   pub told : DueBy (ownList x) (x .signal) (b .due p)
 
-pub record KeptOf (next : ℕ) (v : View) (b : History) : Type 0 where
+pub record InStepOf (next : ℕ) (v : View) (b : History) : Type 0 where
   pub counts : b .next ≡ next
   pub each : (p : ℕ) → Agrees (listsOf v) b p (v p)
   pub once : Once (b .next) (b .opened) (b .run)
   -- a fact of the table alone, which goes with the book from call to call
   pub awaited : Awaited v
 
-abbrev pub Kept : ProcessTable → History → Type 0
-Kept t b = KeptOf (t .next .0) (process t) b
+abbrev pub InStep : ProcessTable → History → Type 0
+InStep t b = InStepOf (t .head .next .0) (process t) b
 
 -- nothing is due
 pub none-due : (d : Option Due) → isDue d ≡ false → d ≡ none
@@ -81,8 +69,8 @@ none-due (some d) e = absurd (true≢false e)
 
 -- what the book has for a process at a place
 module _ {lists : ℕ → List Guard} {b : History} {p : ℕ} {x : Process} (a : Agrees lists b p x) {place : Place} (e : x .place ≡ place) where
-  pub offer-at : cond (openAt place (x .accepting)) (some (offerOf x)) none ≡ b .opened p
-  offer-at = subst (λ (l : Place). cond (openAt l (x .accepting)) (some (offerOf x)) none ≡ b .opened p) e (a .offer)
+  pub offer-at : cond (openAt place (x .accepting)) (some (offerBy x)) none ≡ b .opened p
+  offer-at = subst (λ (l : Place). cond (openAt l (x .accepting)) (some (offerBy x)) none ≡ b .opened p) e (a .offer)
 
   pub owed-at : isDue (b .due p) ≡ isOwed place (x .accepting)
   owed-at = subst (λ (l : Place). isDue (b .due p) ≡ isOwed l (x .accepting)) e (a .owed)
@@ -93,22 +81,22 @@ module _ {lists : ℕ → List Guard} {b : History} {p : ℕ} {x : Process} (a :
 -- what a change at other processes leaves of what is due to p, if it leaves alone the process that p has committed to
 module _ (lists lists' : ℕ → List Guard) (due due' : ℕ → Option Due) (p : ℕ) (same : due' p ≡ due p) where
   at-other : (gs : List Guard) (place : Place)
-      → ((i j : ℕ) → place ≡ Committed i j → (lists' (getD gs i blank .partner) ≡ lists (getD gs i blank .partner)) × (due' (getD gs i blank .partner) ≡ due (getD gs i blank .partner)))
+      → ((i j : ℕ) → place ≡ Place.Committed i j → (lists' (getD gs i blank .partner) ≡ lists (getD gs i blank .partner)) × (due' (getD gs i blank .partner) ≡ due (getD gs i blank .partner)))
       → DueAt lists due p gs place → DueAt lists' due' p gs place
-  at-other gs Idle h d = tt
-  at-other gs Entering h d = tt
-  at-other gs (Scanning i) h d = tt
-  at-other gs (Trying i) h d = tt
-  at-other gs (Committed i j) h d = let r = h i j refl in record { mine = rw (same, r .0) (d .mine); theirs = r .1 ∙ d .theirs }
-  at-other gs Posting h d = tt
-  at-other gs Opening h d = tt
-  at-other gs Showing h d = tt
-  at-other gs Asleep h d = tt
-  at-other gs Waiting h d = tt
-  at-other gs (Met i m) h d = same ∙ d
+  at-other gs Place.Idle h d = tt
+  at-other gs Place.Entering h d = tt
+  at-other gs (Place.Scanning i) h d = tt
+  at-other gs (Place.Trying i) h d = tt
+  at-other gs (Place.Committed i j) h d = let r = h i j refl in record { mine = rw (same, r .0) (d .mine); theirs = r .1 ∙ d .theirs }
+  at-other gs Place.Posting h d = tt
+  at-other gs Place.Opening h d = tt
+  at-other gs Place.Showing h d = tt
+  at-other gs Place.Asleep h d = tt
+  at-other gs Place.Waiting h d = tt
+  at-other gs (Place.Met i m) h d = same ∙ d
 
 pub agrees-other : (lists lists' : ℕ → List Guard) (b b' : History) (p : ℕ) (x : Process) → b' .opened p ≡ b .opened p → b' .due p ≡ b .due p
-    → ((i j : ℕ) → x .place ≡ Committed i j → (lists' (ownGuard x i .partner) ≡ lists (ownGuard x i .partner)) × (b' .due (ownGuard x i .partner) ≡ b .due (ownGuard x i .partner)))
+    → ((i j : ℕ) → x .place ≡ Place.Committed i j → (lists' (ownGuard x i .partner) ≡ lists (ownGuard x i .partner)) × (b' .due (ownGuard x i .partner) ≡ b .due (ownGuard x i .partner)))
     → Agrees lists b p x → Agrees lists' b' p x
 agrees-other lists lists' b b' p x o d h a = record {
   offer = a .offer ∙ sym o;

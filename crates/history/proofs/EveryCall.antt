@@ -9,7 +9,7 @@ use borrow.Author.Tests.{eq-eqb, ne-eqb}
 use Rattle.alternative.specs.declared.Message.{Message}
 use Rattle.alternative.specs.declared.Guard.{Guard}
 use Rattle.alternative.specs.Guards.{lent}
-use Rattle.process.specs.declared.Place.the-variants.{Idle, Met}
+use Rattle.process.specs.declared.Place.{Place}
 use Rattle.process.specs.declared.Process.{Process}
 use Rattle.rendezvous.specs.declared.ProcessTable.{ProcessTable}
 use Rattle.process.specs.Process.{ownList}
@@ -18,21 +18,23 @@ use Rattle.process.specs.Rules.{atPlace}
 use Rattle.rendezvous.specs.Numbers.{ticket}
 use Rattle.rendezvous.specs.Calls.{entering, offered, collected}
 use Rattle.rendezvous.proofs.Verdicts.{Admitted}
-use Rattle.history.specs.Run.{Call, Offer, Step, Collect, replyTo}
+use Rattle.rendezvous.specs.Run.{Call, Offer, Step, Collect, replyTo}
 use Rattle.history.specs.Book.{History, enteredFor, enter}
+use Rattle.history.specs.Tables.{tables}
 use Rattle.history.proofs.View.{View, upd, entered-each, upd-other}
 use Rattle.history.proofs.Invariant.{Good}
 use Rattle.history.proofs.Places.{idle-is}
 use Rattle.history.proofs.Facts.{fine, unbound}
 use Rattle.history.proofs.Replies.{offer-elim, step-elim, collect-elim}
-use Rattle.history.proofs.GoodTable.{lent-back, put-one}
+use Rattle.history.proofs.GoodTable.{lent-back, put-one, good-after}
 use Rattle.history.proofs.Once.{once-offers}
 use Rattle.history.proofs.Awaited.{awaited-put}
-use Rattle.history.proofs.Due.{listsOf, Agrees, KeptOf, Kept, none-due, offer-at, owed-at, due-at, agrees-other, lists-same}
+use Rattle.history.proofs.Due.{listsOf, Agrees, InStepOf, InStep, none-due, offer-at, owed-at, due-at, agrees-other, lists-same}
 use Rattle.history.proofs.Followed.{Followed, joins-none, turned-away}
 use Rattle.history.proofs.Commit.{step-followed}
+use Rattle.history.proofs.EveryList.{Follows}
 
-module _ {t : ProcessTable} (good : Good t) {b : History} (k : Kept t b) (p : ℕ) where
+module _ {t : ProcessTable} (good : Good t) {b : History} (k : InStep t b) (p : ℕ) where
   offer-followed : (gs : List Guard) → Admitted t p (lent gs) → Followed t b (Offer p gs) (offered t p (lent gs))
   unfolding enter offered entering lent
   offer-followed gs a = record {
@@ -42,7 +44,7 @@ module _ {t : ProcessTable} (good : Good t) {b : History} (k : Kept t b) (p : �
     joins = joins-none b;
     ticket = inr (ap ticket (sym (k .counts)));
     outcome = tt;
-    kept = subst⁻¹ (λ (v : View). KeptOf (t .next .0 + 1) v after) (put-one good p x (a .below)) (record {
+    in-step = subst⁻¹ (λ (v : View). InStepOf (t .head .next .0 + 1) v after) (put-one good p x (a .below)) (record {
       counts = omega (arith, k .counts);
       each = entered-each (Agrees (listsOf (upd (process t) p x)) after) (process t) p x own others;
       once = once-offers (k .once) p gs;
@@ -51,12 +53,12 @@ module _ {t : ProcessTable} (good : Good t) {b : History} (k : Kept t b) (p : �
   }
     where
       x : Process
-      x = entering (process t p) (t .next) (lent gs)
+      x = entering (process t p) (t .head .next) (lent gs)
 
       after : History
       after = record { next = suc (b .next); opened = enteredFor p (some (record { id = b .next; guards = gs })) (b .opened); due = b .due; run = b .run }
 
-      idle : process t p .place ≡ Idle
+      idle : process t p .place ≡ Place.Idle
       idle = idle-is (process t p .place) (a .idle)
 
       -- the list that was lent is the own list
@@ -76,7 +78,7 @@ module _ {t : ProcessTable} (good : Good t) {b : History} (k : Kept t b) (p : �
       others r rp = agrees-other (listsOf (process t)) (listsOf (upd (process t) p x)) b after r (process t r) (rw (ne-eqb r p rp)) refl
           (λ i j c. (ap ownList (upd-other (process t) p x _ (unbound (process t) (good .inv) p _ idle (λ s. s) r i j c)), refl)) (k .each r)
 
-  collect-followed : p < t .n → (i : ℕ) (m : Message) → process t p .place ≡ Met i m → Followed t b (Collect p) (collected t p (process t p) (Met i m))
+  collect-followed : p < t .head .n → (i : ℕ) (m : Message) → process t p .place ≡ Place.Met i m → Followed t b (Collect p) (collected t p (process t p) (Place.Met i m))
   unfolding enter
   collect-followed below i m e = record {
     after = after;
@@ -85,7 +87,7 @@ module _ {t : ProcessTable} (good : Good t) {b : History} (k : Kept t b) (p : �
     joins = joins-none b;
     ticket = tt;
     outcome = inr (_, due-at (k .each p) e, refl);
-    kept = subst⁻¹ (λ (v : View). KeptOf (t .next .0) v after) (put-one good p x below) (record {
+    in-step = subst⁻¹ (λ (v : View). InStepOf (t .head .next .0) v after) (put-one good p x below) (record {
       counts = k .counts;
       each = rw (lists-same (process t) p x refl) (entered-each (Agrees (listsOf (process t)) after) (process t) p x own others);
       once = k .once;
@@ -94,7 +96,7 @@ module _ {t : ProcessTable} (good : Good t) {b : History} (k : Kept t b) (p : �
   }
     where
       x : Process
-      x = atPlace (process t p) Idle
+      x = atPlace (process t p) Place.Idle
 
       after : History
       after = record { next = b .next; opened = b .opened; due = enteredFor p none (b .due); run = b .run }
@@ -107,8 +109,26 @@ module _ {t : ProcessTable} (good : Good t) {b : History} (k : Kept t b) (p : �
       others r rp = agrees-other (listsOf (process t)) (listsOf (process t)) b after r (process t r) refl (rw (ne-eqb r p rp))
           (λ a j c. (refl, rw (ne-eqb _ p (unbound (process t) (good .inv) p _ e (λ s. s) r a j c)))) (k .each r)
 
-pub followed : (t : ProcessTable) (b : History) → Good t → Kept t b → (c : Call) → Followed t b c (replyTo t c)
+followed : (t : ProcessTable) (b : History) → Good t → InStep t b → (c : Call) → Followed t b c (replyTo t c)
 unfolding replyTo
 followed t b good k (Offer p gs) = offer-elim (Followed t b (Offer p gs)) t (turned-away t b (Offer p gs) k) p gs (offer-followed good k p gs)
 followed t b good k (Step p) = step-elim (Followed t b (Step p)) t (turned-away t b (Step p) k) p (step-followed good k p)
 followed t b good k (Collect p) = collect-elim (Followed t b (Collect p)) t (turned-away t b (Collect p) k) p (collect-followed good k p)
+
+-- a table and its book from which every list of calls goes well
+pub record Sound (t : ProcessTable) (b : History) : Type 0 where
+  pub good : Good t
+  pub in-step : InStep t b
+
+pub follows : (t : ProcessTable) (b : History) → Sound t b → (c : Call) → Follows tables Sound t b c
+follows t b s c =
+    let f = followed t b (s .good) (s .in-step) c in
+    record {
+      after = f .after;
+      entered = f .entered;
+      run = f .run;
+      joins = f .joins;
+      ticket = f .ticket;
+      outcome = f .outcome;
+      goes-on = record { good = good-after t (s .good) c; in-step = f .in-step };
+    }

@@ -5,7 +5,6 @@ use mathlib.Core.Bool.{true}
 use mathlib.Core.Option.{some}
 use Rattle.alternative.specs.Guards.{guardsMatch}
 use Rattle.process.specs.declared.Place.{Place}
-use Rattle.process.specs.declared.Place.the-variants.{Committed}
 use Rattle.process.specs.Process.{indexOf, ownList, postedList, ownGuard}
 use Rattle.history.proofs.View.{View}
 use Rattle.history.proofs.Invariant.{Shows, On, OnAt, Shown, Fine, Bound, Inv}
@@ -33,9 +32,9 @@ module _ {n next : ℕ} (v : View) (inv : Inv n next v) (p : ℕ) where
   accepts = accepting-shows (v p .place) _ _ _ _ (inv .alone p .fine)
 
   -- a process committed to is bound, on guards that match
-  pub commit-binds : (i j : ℕ) → v p .place ≡ Committed i j → let q = ownGuard (v p) i .partner in Bound (v q) × (guardsMatch p (ownGuard (v p) i) q (ownGuard (v q) j) ≡ true)
+  pub commit-binds : (i j : ℕ) → v p .place ≡ Place.Committed i j → let q = ownGuard (v p) i .partner in Bound (v q) × (guardsMatch p (ownGuard (v p) i) q (ownGuard (v q) j) ≡ true)
   commit-binds i j e = inv .paired p _ (at-names i (rw e refl) .other) .bound i j (rw e (refl, refl)) refl
 
 -- so no process has committed to one that does not show its list
-pub unbound : {n next : ℕ} (v : View) (inv : Inv n next v) (p : ℕ) (pl : Place) → v p .place ≡ pl → (Shows pl → ⊥) → (r i j : ℕ) → v r .place ≡ Committed i j → ownGuard (v r) i .partner ≡ p → ⊥
+pub unbound : {n next : ℕ} (v : View) (inv : Inv n next v) (p : ℕ) (pl : Place) → v p .place ≡ pl → (Shows pl → ⊥) → (r i j : ℕ) → v r .place ≡ Place.Committed i j → ownGuard (v r) i .partner ≡ p → ⊥
 unbound v inv p pl e hides r i j c z = hides (rw (z, e) at (commit-binds v inv r i j c .0 .shows))

@@ -2,67 +2,73 @@
 use Prim.Native.Nat.{ℕ, suc, _<_}
 use Prim.Native.Char.{code}
 use mathlib.Core.Path.{_≡_, refl, sym, _∙_, subst, subst⁻¹}
-use mathlib.Core.Bool.{Bool, true, false}
-use mathlib.Core.List.{[], _∷_, _++_, append-nil}
+use mathlib.Core.Bool.{Bool, true, false, cond}
+use mathlib.Core.List.{List, [], _∷_, _++_, append-nil}
 use mathlib.Core.Logic.{inl}
 use mathlib.Core.Option.{some}
 use lib.Dec.{eqb}
 use native.Mathlib.Omega.{arith}
 use Rattle.alternative.specs.declared.Found.{Found}
-use Rattle.alternative.specs.declared.Found.the-variants.{At, Missing}
 use Rattle.alternative.specs.Guards.{nextEnabled}
 use Rattle.process.specs.declared.Signal.{Signal}
-use Rattle.process.specs.declared.Signal.the-variants.{Absent, Present}
 use Rattle.process.specs.declared.Place.{Place}
-use Rattle.process.specs.declared.Place.the-variants.{Scanning, Committed, Waiting}
 use Rattle.process.specs.declared.State.{State}
-use Rattle.process.specs.declared.State.the-variants.{Running, Alt, Sleeping}
 use Rattle.process.specs.declared.Process.{Process}
 use Rattle.rendezvous.specs.declared.ProcessTable.{ProcessTable}
+use Rattle.rendezvous.specs.declared.Answer.{Answer}
 use Rattle.rendezvous.specs.declared.Refusal.{Refusal}
-use Rattle.rendezvous.specs.declared.Answer.the-variants.{Moved, Unchanged}
 use Rattle.rendezvous.specs.declared.Reply.{Reply}
-use Rattle.process.specs.Process.{letterOf, indexOf, ownList, ownGuard, openAt}
+use Rattle.process.specs.Process.{letterOf, isAt, indexOf, ownList, ownGuard, openAt}
 use Rattle.rendezvous.specs.Table.{process, put}
+use Rattle.process.proofs.PlaceCases.{if-committed}
 use Rattle.process.specs.Rules.{Own, atPlace, scanAt, scanFrom, scan, handOver, absorb}
 use Rattle.rendezvous.specs.Calls.{refused, applied}
 use Rattle.rendezvous.specs.Numbers.{refusalNumber, said}
-use Rattle.history.specs.Run.{Call, Offer, Step, Collect}
-use Rattle.history.specs.Book.{Rendezvous, History, seen, stepping, enter}
+use Rattle.rendezvous.specs.Run.{Call, Offer, Step, Collect}
+use Rattle.history.specs.Book.{Rendezvous, Moment, Joined, History, seen, stepping, enter}
 use Rattle.history.specs.NothingLost.{isOwed, isDue}
-use Rattle.history.specs.Demand3.{commitAt, commitBy, Joins, TicketIsNext, OutcomeWasDue}
+use Rattle.history.specs.Tables.{commitAt, madeBy, offerBy}
+use Rattle.history.specs.Demand3.{Joins, TicketIsNext, OutcomeWasDue}
 use Rattle.history.proofs.View.{View, entered-each}
 use Rattle.history.proofs.Invariant.{Commits, Bound, Good}
 use Rattle.history.proofs.Matches.{match}
 use Rattle.history.proofs.Places.{told-woken}
 use Rattle.history.proofs.Facts.{fine, at-names, shown, commit-binds}
-use Rattle.history.proofs.GoodTable.{put-one, put-two}
+use Rattle.history.proofs.GoodTable.{put-one, put-there, put-two}
 use Rattle.history.proofs.Awaited.{awaited-put, hidden, awaited-signal}
-use Rattle.history.proofs.Due.{offerOf, listsOf, DueBy, Agrees, KeptOf, Kept, lists-same, offer-at, owed-at, due-at, each-two}
+use Rattle.history.proofs.Due.{listsOf, DueBy, Agrees, InStepOf, InStep, lists-same, offer-at, owed-at, due-at, each-two}
 
 -- the book follows a call on table t: it is not stuck, it has the rendezvous, ticket or outcome of the call, and it goes with the table handed back
 pub record Followed (t : ProcessTable) (b : History) (c : Call) (reply : Reply) : Type 0 where
   pub after : History
   pub entered : enter b c (seen (said (reply .answer))) ≡ some after
-  pub run : after .run ≡ b .run ++ commitBy t c (reply .answer)
-  pub joins : (r : Rendezvous) → commitBy t c (reply .answer) ≡ r ∷ [] → Joins b r
+  pub run : after .run ≡ b .run ++ madeBy t c (reply .table)
+  pub joins : (r : Rendezvous) → madeBy t c (reply .table) ≡ Joined r ∷ [] → Joins b r
   pub ticket : TicketIsNext b c (said (reply .answer)) after
   pub outcome : OutcomeWasDue b c (said (reply .answer)) after
-  pub kept : Kept (reply .table) after
+  pub in-step : InStep (reply .table) after
 
 -- a call that is no commit
-pub joins-none : (b : History) (r : Rendezvous) → [] ≡ r ∷ [] → Joins b r
+pub joins-none : (b : History) (r : Rendezvous) → [] ≡ Joined r ∷ [] → Joins b r
 joins-none b r e = let z : _≡_ {A = ℕ} 0 1 = cc in absurd (omega arith)
 
 -- a call at which nothing is entered
-enters-nothing : {t : ProcessTable} {b : History} (c : Call) (reply : Reply) → enter b c (seen (said (reply .answer))) ≡ some b → commitBy t c (reply .answer) ≡ []
-    → TicketIsNext b c (said (reply .answer)) b → OutcomeWasDue b c (said (reply .answer)) b → Kept (reply .table) b → Followed t b c reply
-enters-nothing {t} {b} c reply e z i o k = record { after = b; entered = e; run = rw (z, append-nil (b .run)); joins = λ r f. joins-none b r (sym z ∙ f); ticket = i; outcome = o; kept = k }
+enters-nothing : {t : ProcessTable} {b : History} (c : Call) (reply : Reply) → enter b c (seen (said (reply .answer))) ≡ some b → madeBy t c (reply .table) ≡ []
+    → TicketIsNext b c (said (reply .answer)) b → OutcomeWasDue b c (said (reply .answer)) b → InStep (reply .table) b → Followed t b c reply
+enters-nothing {t} {b} c reply e z i o k = record { after = b; entered = e; run = rw (z, append-nil (b .run)); joins = λ r f. joins-none b r (sym z ∙ f); ticket = i; outcome = o; in-step = k }
 
-pub turned-away : (t : ProcessTable) (b : History) (c : Call) → Kept t b → (r : Refusal) → Followed t b c (refused r t)
+-- a step makes nothing that takes p elsewhere than to C, or leaves it where it is
+none-made : (b : Bool) (ms : List Moment) → ms ≡ [] → cond b ms [] ≡ []
+none-made true ms e = e
+none-made false ms e = refl
+
+stays-made : (t : ProcessTable) (p : ℕ) (pl : Place) → cond (isAt "T" pl) (commitAt t p pl) [] ≡ []
+stays-made t p pl = if-committed (λ ms. cond (isAt "T" pl) ms [] ≡ []) [] _ pl (λ i j e. rw e refl) (none-made (isAt "T" pl) [] refl)
+
+pub turned-away : (t : ProcessTable) (b : History) (c : Call) → InStep t b → (r : Refusal) → Followed t b c (refused r t)
 unfolding enter
 turned-away t b (Offer p gs) k r = enters-nothing _ _ refl refl (inl (refusalNumber r, refl)) tt k
-turned-away t b (Step p) k r = enters-nothing _ _ refl refl tt tt k
+turned-away t b (Step p) k r = enters-nothing _ _ refl (stays-made t p (process t p .place)) tt tt k
 turned-away t b (Collect p) k r = enters-nothing _ _ refl refl tt (inl (refusalNumber r, refl)) k
 
 -- p moves from place pl to the new record x, with its list: no commit is entered, the book goes with the record, p was not at C, and x is bound only if the old record was
@@ -74,15 +80,15 @@ pub record Moving (t : ProcessTable) (b : History) (p : ℕ) (pl : Place) (x : P
   pub uncommitted : (i j : ℕ) → Commits pl i j → ⊥
   pub bound : Bound x → Bound (process t p)
 
-module _ {t : ProcessTable} (good : Good t) {b : History} (k : Kept t b) (p : ℕ) (below : p < t .n) where
-  pub stays : Followed t b (Step p) (record { answer = Unchanged; table = t })
+module _ {t : ProcessTable} (good : Good t) {b : History} (k : InStep t b) (p : ℕ) (below : p < t .head .n) where
+  pub stays : Followed t b (Step p) (record { answer = Answer.Unchanged; table = t })
   unfolding enter
-  stays = enters-nothing _ _ refl refl tt tt k
+  stays = enters-nothing _ _ refl (stays-made t p (process t p .place)) tt tt k
 
   -- one record is new
-  pub moves : (pl : Place) → process t p .place ≡ pl → (x : Process) → Moving t b p pl x → Followed t b (Step p) (record { answer = Moved (x .place); table = put t p x })
+  pub moves : (pl : Place) → process t p .place ≡ pl → (x : Process) → Moving t b p pl x → Followed t b (Step p) (record { answer = Answer.Moved (x .place); table = put t p x })
   unfolding enter
-  moves pl e x m = enters-nothing _ _ (m .book-stays) (m .no-commit) tt tt (subst⁻¹ (λ (v : View). KeptOf (t .next .0) v b) (put-one good p x below) (record {
+  moves pl e x m = enters-nothing _ _ (m .book-stays) (none-made (isAt "T" (process t p .place)) (commitAt t p (process (put t p x) p .place)) (rw (put-there good p x below) (m .no-commit))) tt tt (subst⁻¹ (λ (v : View). InStepOf (t .head .next .0) v b) (put-one good p x below) (record {
     counts = k .counts;
     each = rw (lists-same (process t) p x (m .list)) (entered-each (Agrees (listsOf (process t)) b) (process t) p x (m .agrees) (λ r _. k .each r));
     once = k .once;
@@ -95,40 +101,41 @@ module _ {t : ProcessTable} (good : Good t) {b : History} (k : Kept t b) (p : �
   unfolding scanFrom
   scans pl e opened unowed c q i = go (nextEnabled (ownList (process t p)) i)
     where
-      o : some (offerOf (process t p)) ≡ b .opened p
+      o : some (offerBy (process t p)) ≡ b .opened p
       o = rw opened at (offer-at (k .each p) e)
 
       w : isDue (b .due p) ≡ false
       w = owed-at (k .each p) e ∙ unowed
 
       go : (f : Found) → Followed t b (Step p) (applied t p q (Own (atPlace (process t p) (scanAt f))))
-      go (At i) = moves pl e _ (search (o, w, c, k .each p .told, hidden))
-      go Missing = moves pl e _ (search (o, w, c, k .each p .told, hidden))
+      go (Found.At i) = moves pl e _ (search (o, w, c, k .each p .told, hidden))
+      go Found.Missing = moves pl e _ (search (o, w, c, k .each p .told, hidden))
 
-  pub scan-followed : (i : ℕ) → process t p .place ≡ Scanning i → (w : State) (older : Bool)
+  pub scan-followed : (i : ℕ) → process t p .place ≡ Place.Scanning i → (w : State) (older : Bool)
       → Followed t b (Step p) (applied t p (ownGuard (process t p) i .partner) (scan (process t p) i w older))
-  scan-followed i e Running older = scans _ e refl refl (λ i j c. c) _ (suc i)
-  scan-followed i e Sleeping older = scans _ e refl refl (λ i j c. c) _ (suc i)
+  scan-followed i e State.Running older = scans _ e refl refl (λ i j c. c) _ (suc i)
+  scan-followed i e State.Sleeping older = scans _ e refl refl (λ i j c. c) _ (suc i)
   scan-followed i e State.Waiting older = moves _ e _ (search (offer-at (k .each p) e, owed-at (k .each p) e, k .each p .told, hidden))
-  scan-followed i e Alt true = moves _ e _ (search (offer-at (k .each p) e, owed-at (k .each p) e, k .each p .told, hidden))
-  scan-followed i e Alt false = stays
+  scan-followed i e State.Alt true = moves _ e _ (search (offer-at (k .each p) e, owed-at (k .each p) e, k .each p .told, hidden))
+  scan-followed i e State.Alt false = stays
 
-  pub absorbs : process t p .place ≡ Waiting → (s : Signal) → process t p .signal ≡ s → Followed t b (Step p) (applied t p 0 (absorb (process t p) s))
-  absorbs e Absent f = stays
-  absorbs e (Present j m) f =
+  pub absorbs : process t p .place ≡ Place.Waiting → (s : Signal) → process t p .signal ≡ s → Followed t b (Step p) (applied t p 0 (absorb (process t p) s))
+  absorbs e Signal.Absent f = stays
+  absorbs e (Signal.Present j m) f =
       let woken = told-woken _ _ j m (fine (process t) (good .inv) p _ e .deaf) f in
       let due = subst (λ (s : Signal). DueBy (ownList (process t p)) s (b .due p)) f (k .each p .told) in
       moves _ e _ (search (rw woken at (offer-at (k .each p) e), rw woken at (owed-at (k .each p) e), due, hidden))
 
   -- rule 9: what was pledged is handed over
-  pub signals : (i j : ℕ) → process t p .place ≡ Committed i j
+  pub signals : (i j : ℕ) → process t p .place ≡ Place.Committed i j
       → Followed t b (Step p) (applied t p (ownGuard (process t p) i .partner) (handOver (process t p) i j (process t (ownGuard (process t p) i .partner))))
   unfolding enter handOver
   signals i j e =
       let q = ownGuard (process t p) i .partner in
       let binds = commit-binds (process t) (good .inv) p i j e in
       let due = due-at (k .each p) e in
-      enters-nothing _ _ refl refl tt tt (subst⁻¹ (λ (v : View). KeptOf (t .next .0) v b) (put-two good p _ below q _ (at-names (process t) (good .inv) p i (rw e refl) .below)) (record {
+      let not-tried : isAt "T" (process t p .place) ≡ false = rw e refl in
+      enters-nothing _ _ refl (rw not-tried refl) tt tt (subst⁻¹ (λ (v : View). InStepOf (t .head .next .0) v b) (put-two good p _ below q _ (at-names (process t) (good .inv) p i (rw e refl) .below)) (record {
         counts = k .counts;
         each = each-two (process t) b p q _ _ refl refl
             (record { offer = offer-at (k .each p) e; owed = owed-at (k .each p) e; at = rw (shown (process t) (good .inv) q (binds .0 .shows) .posted) (due .mine); told = k .each p .told })

@@ -5,91 +5,79 @@ use mathlib.Core.List.{List}
 use mathlib.Core.Bool.{Bool, true, false}
 use mathlib.Core.Option.{Option, some, none}
 use lib.ListN.{getD, length}
+use lib.Dec.{ltb}
 use Rattle.alternative.specs.declared.Guard.{Guard}
 use Rattle.alternative.specs.Guards.{blank, guardsMatch}
 use Rattle.process.specs.declared.Signal.{Signal}
-use Rattle.process.specs.declared.Signal.the-variants.{Absent}
 use Rattle.process.specs.declared.Place.{Place}
-use Rattle.process.specs.declared.Place.the-variants.{Idle, Entering, Scanning, Trying, Committed, Posting, Opening, Showing, Asleep, Waiting, Met}
 use Rattle.process.specs.declared.State.{State}
-use Rattle.process.specs.declared.State.the-variants.{Running, Alt, Sleeping}
 use Rattle.process.specs.declared.Process.{Process}
 use Rattle.rendezvous.specs.declared.ProcessTable.{ProcessTable}
-use Rattle.process.specs.Process.{stateOf, indexOf, ownList, postedList, ownGuard, isIdle}
+use Rattle.process.specs.Process.{stateOf, indexOf, ifMet, ifCommitted, ownList, postedList, ownGuard, isIdle}
 use Rattle.rendezvous.specs.Table.{mostProcesses, process}
-use Rattle.process.specs.Fits.{listFits}
+use Rattle.process.specs.Fits.{listFits, signalFits}
 use Rattle.history.proofs.View.{View}
 
 -- the offer is open and its scan is past guard k
 abbrev pub Past : Place → Bool → ℕ → Type 0
-Past Idle accepting k = ⊥
-Past Entering accepting k = ⊥
-Past (Scanning i) accepting k = k < i
-Past (Trying i) accepting k = k < i
-Past (Committed i j) accepting k = ⊥
-Past Posting accepting k = Unit {0}
-Past Opening accepting k = Unit {0}
-Past Showing accepting k = accepting ≡ true
-Past Asleep accepting k = ⊥
-Past Waiting accepting k = accepting ≡ true
-Past (Met i m) accepting k = ⊥
+Past Place.Idle accepting k = ⊥
+Past Place.Entering accepting k = ⊥
+Past (Place.Scanning i) accepting k = k < i
+Past (Place.Trying i) accepting k = k < i
+Past (Place.Committed i j) accepting k = ⊥
+Past Place.Posting accepting k = Unit {0}
+Past Place.Opening accepting k = Unit {0}
+Past Place.Showing accepting k = accepting ≡ true
+Past Place.Asleep accepting k = ⊥
+Past Place.Waiting accepting k = accepting ≡ true
+Past (Place.Met i m) accepting k = ⊥
 
 -- at T at guard k
 abbrev pub Tries : Place → ℕ → Type 0
-Tries Idle k = ⊥
-Tries Entering k = ⊥
-Tries (Scanning i) k = ⊥
-Tries (Trying i) k = i ≡ k
-Tries (Committed i j) k = ⊥
-Tries Posting k = ⊥
-Tries Opening k = ⊥
-Tries Showing k = ⊥
-Tries Asleep k = ⊥
-Tries Waiting k = ⊥
-Tries (Met i m) k = ⊥
+Tries Place.Idle k = ⊥
+Tries Place.Entering k = ⊥
+Tries (Place.Scanning i) k = ⊥
+Tries (Place.Trying i) k = i ≡ k
+Tries (Place.Committed i j) k = ⊥
+Tries Place.Posting k = ⊥
+Tries Place.Opening k = ⊥
+Tries Place.Showing k = ⊥
+Tries Place.Asleep k = ⊥
+Tries Place.Waiting k = ⊥
+Tries (Place.Met i m) k = ⊥
 
 -- at C with guard a and kept index b
 abbrev pub Commits : Place → ℕ → ℕ → Type 0
-Commits Idle a b = ⊥
-Commits Entering a b = ⊥
-Commits (Scanning i) a b = ⊥
-Commits (Trying i) a b = ⊥
-Commits (Committed i j) a b = (i ≡ a) × (j ≡ b)
-Commits Posting a b = ⊥
-Commits Opening a b = ⊥
-Commits Showing a b = ⊥
-Commits Asleep a b = ⊥
-Commits Waiting a b = ⊥
-Commits (Met i m) a b = ⊥
+Commits pl a b = ifCommitted ⊥ (λ i j. (i ≡ a) × (j ≡ b)) pl
 
 -- at H or W
 abbrev pub Shows : Place → Type 0
-Shows Idle = ⊥
-Shows Entering = ⊥
-Shows (Scanning i) = ⊥
-Shows (Trying i) = ⊥
-Shows (Committed i j) = ⊥
-Shows Posting = ⊥
-Shows Opening = ⊥
-Shows Showing = Unit {0}
-Shows Asleep = ⊥
-Shows Waiting = Unit {0}
-Shows (Met i m) = ⊥
+Shows Place.Idle = ⊥
+Shows Place.Entering = ⊥
+Shows (Place.Scanning i) = ⊥
+Shows (Place.Trying i) = ⊥
+Shows (Place.Committed i j) = ⊥
+Shows Place.Posting = ⊥
+Shows Place.Opening = ⊥
+Shows Place.Showing = Unit {0}
+Shows Place.Asleep = ⊥
+Shows Place.Waiting = Unit {0}
+Shows (Place.Met i m) = ⊥
 
 -- a place whose word rule 3 goes by, and W, which rule 4 goes by
 abbrev pub QuietState : State → Type 0
-QuietState Running = Unit {0}
-QuietState Sleeping = Unit {0}
-QuietState Alt = ⊥
+QuietState State.Running = Unit {0}
+QuietState State.Sleeping = Unit {0}
+QuietState State.Alt = ⊥
 QuietState State.Waiting = ⊥
 
 abbrev pub Quiet : Place → Type 0
 Quiet pl = QuietState (stateOf pl)
 
 abbrev pub WaitingState : State → Type 0
-WaitingState Running = ⊥
-WaitingState Sleeping = ⊥
-WaitingState Alt = ⊥
+WaitingState State.Running = ⊥
+WaitingState State.Sleeping = ⊥
+WaitingState State.Alt = ⊥
 WaitingState State.Waiting = Unit {0}
 
 abbrev pub Waits : Place → Type 0
@@ -106,26 +94,26 @@ OnAt gs none = Unit {0}
 
 -- wake count 1 and no signal
 abbrev pub Calm : Bool → Signal → Type 0
-Calm accepting signal = (accepting ≡ false) × (signal ≡ Absent)
+Calm accepting signal = (accepting ≡ false) × (signal ≡ Signal.Absent)
 
 -- at H or W the own list gs is posted as hs, and a signal comes after the wake count is 1
 pub record Shown (gs hs : List Guard) (accepting : Bool) (signal : Signal) : Type 0 where
   pub posted : hs ≡ gs
-  pub deaf : accepting ≡ true → signal ≡ Absent
+  pub deaf : accepting ≡ true → signal ≡ Signal.Absent
 
 -- what a place says of the own list gs, the posted list hs, the wake count and the signal
 abbrev pub Fine : Place → List Guard → List Guard → Bool → Signal → Type 0
-Fine Idle gs hs accepting signal = Calm accepting signal
-Fine Entering gs hs accepting signal = Calm accepting signal
-Fine (Scanning i) gs hs accepting signal = Calm accepting signal
-Fine (Trying i) gs hs accepting signal = Calm accepting signal
-Fine (Committed i j) gs hs accepting signal = Calm accepting signal
-Fine Posting gs hs accepting signal = Calm accepting signal
-Fine Opening gs hs accepting signal = Calm accepting signal × (hs ≡ gs)
-Fine Showing gs hs accepting signal = Shown gs hs accepting signal
-Fine Asleep gs hs accepting signal = Calm accepting signal
-Fine Waiting gs hs accepting signal = Shown gs hs accepting signal
-Fine (Met i m) gs hs accepting signal = Calm accepting signal
+Fine Place.Idle gs hs accepting signal = Calm accepting signal
+Fine Place.Entering gs hs accepting signal = Calm accepting signal
+Fine (Place.Scanning i) gs hs accepting signal = Calm accepting signal
+Fine (Place.Trying i) gs hs accepting signal = Calm accepting signal
+Fine (Place.Committed i j) gs hs accepting signal = Calm accepting signal
+Fine Place.Posting gs hs accepting signal = Calm accepting signal
+Fine Place.Opening gs hs accepting signal = Calm accepting signal × (hs ≡ gs)
+Fine Place.Showing gs hs accepting signal = Shown gs hs accepting signal
+Fine Place.Asleep gs hs accepting signal = Calm accepting signal
+Fine Place.Waiting gs hs accepting signal = Shown gs hs accepting signal
+Fine (Place.Met i m) gs hs accepting signal = Calm accepting signal
 
 -- of process p with record x, in a table of n processes with this next ticket
 pub record Alone (n next p : ℕ) (x : Process) : Type 0 where
@@ -140,7 +128,7 @@ pub record Alone (n next p : ℕ) (x : Process) : Type 0 where
 pub record Bound (y : Process) : Type 0 where
   pub shows : Shows (y .place)
   pub woken : y .accepting ≡ false
-  pub deaf : y .signal ≡ Absent
+  pub deaf : y .signal ≡ Signal.Absent
 
 -- of two processes p and q with records x and y
 pub record Paired (p q : ℕ) (x y : Process) : Type 0 where
@@ -159,9 +147,19 @@ pub record Inv (n next : ℕ) (v : View) : Type 0 where
   pub alone : (p : ℕ) → Alone n next p (v p)
   pub paired : (p q : ℕ) → (p ≡ q → ⊥) → Paired p q (v p) (v q)
 
+-- Of the record x of process p: the posted list, the signal and the outcome are as refusal 7 asks.
+pub record Formed (n p : ℕ) (x : Process) : Type 0 where
+  pub posted : listFits n p (x .altcount) (x .altlist) ≡ true
+  pub signal : signalFits (x .count) (x .signal) ≡ true
+  pub outcome : ifMet (Unit {0}) (λ i m. ltb i (x .count) ≡ true) (x .place)
+
+abbrev pub AllFormed : ℕ → View → Type 0
+AllFormed n v = (p : ℕ) → Formed n p (v p)
+
 -- a table from which every list of calls goes well
 pub record Good (t : ProcessTable) : Type 0 where
   pub long : length (t .processes) ≡ mostProcesses
-  pub least : 2 ≤ t .n
-  pub most : t .n ≤ mostProcesses
-  pub inv : Inv (t .n) (t .next .0) (process t)
+  pub least : 2 ≤ t .head .n
+  pub most : t .head .n ≤ mostProcesses
+  pub inv : Inv (t .head .n) (t .head .next .0) (process t)
+  pub formed : AllFormed (t .head .n) (process t)

@@ -10,15 +10,11 @@ use Rattle.alternative.specs.declared.Message.{Message}
 use Rattle.alternative.specs.declared.Guard.{Guard}
 use Rattle.alternative.specs.declared.GuardList.{GuardList}
 use Rattle.alternative.specs.declared.Found.{Found}
-use Rattle.alternative.specs.declared.Found.the-variants.{At, Missing}
 use Rattle.alternative.specs.Guards.{guardsMatch, nextEnabled, slots}
 use Rattle.process.specs.declared.TransactionId.{TransactionId}
 use Rattle.process.specs.declared.Signal.{Signal}
-use Rattle.process.specs.declared.Signal.the-variants.{Absent, Present}
 use Rattle.process.specs.declared.Place.{Place}
-use Rattle.process.specs.declared.Place.the-variants.{Idle, Entering, Scanning, Trying, Committed, Posting, Opening, Showing, Asleep, Waiting, Met}
 use Rattle.process.specs.declared.State.{State}
-use Rattle.process.specs.declared.State.the-variants.{Running, Alt, Sleeping}
 use Rattle.process.specs.declared.Process.{Process}
 use Rattle.process.specs.Process.{stateOf, indexOf, ownList, postedList, ownGuard, postedGuard, isIdle}
 use Rattle.process.specs.Rules.{atPlace, withSignal, withAccepting, scanAt, scanFrom, scan, try, handOver, absorb, ruleAt, rule, namedBy, partnerOf}
@@ -74,7 +70,7 @@ module _ {n next : ℕ} (v : View) (inv : Inv n next v) (p : ℕ) where
   named i k r l m f = rw (← m) (sym (match f .to))
 
   -- rule 3: the partner is quiet, so no guard of it is near
-  rule-3 : (i : ℕ) → v p .place ≡ Scanning i → Quiet (v (ownGuard (v p) i .partner) .place) → Inv n next (effected v p (ownGuard (v p) i .partner) (scanFrom (v p) (suc i)))
+  rule-3 : (i : ℕ) → v p .place ≡ Place.Scanning i → Quiet (v (ownGuard (v p) i .partner) .place) → Inv n next (effected v p (ownGuard (v p) i .partner) (scanFrom (v p) (suc i)))
   rule-3 i e q = advance _ _ e (suc i) (λ a. a) refl (fine v inv p _ e)
       (λ k r l ne f m h. split k i (λ a. a) (λ a. absurd (apart r l (rw (named i k r l (omega arith) f) q) m)))
     where
@@ -83,18 +79,18 @@ module _ {n next : ℕ} (v : View) (inv : Inv n next v) (p : ℕ) where
       apart r l q (trying b) = quiet-elim (λ at. Tries at l → ⊥) (λ a. a) (λ a. a) (λ a. a) (λ i m a. a) (v r .place) q b
 
   -- rule 4: the partner waits
-  rule-4 : (i : ℕ) → v p .place ≡ Scanning i → Waits (v (ownGuard (v p) i .partner) .place) → Inv n next (upd v p (atPlace (v p) (Trying i)))
+  rule-4 : (i : ℕ) → v p .place ≡ Place.Scanning i → Waits (v (ownGuard (v p) i .partner) .place) → Inv n next (upd v p (atPlace (v p) (Place.Trying i)))
   rule-4 i e w =
       let waits : (k r l : ℕ) → guardsMatch p (ownGuard (v p) k) r (ownGuard (v r) l) ≡ true → i ≡ k → Waits (v r .place) = λ k r l f g. rw (named i k r l (sym g) f) w in
       moves v inv p _ e _ _ _ (fine v inv p _ e) (at-on v inv p i (rw e refl)) (search (absurd, inr, waits, free v inv p _ e))
 
   -- a process past a guard that matches the one tried waits and is still accepting
-  tried : (i r l : ℕ) → v p .place ≡ Trying i → (r ≡ p → ⊥) → guardsMatch p (ownGuard (v p) i) r (ownGuard (v r) l) ≡ true → Near (v r) l → v r .accepting ≡ true
+  tried : (i r l : ℕ) → v p .place ≡ Place.Trying i → (r ≡ p → ⊥) → guardsMatch p (ownGuard (v p) i) r (ownGuard (v r) l) ≡ true → Near (v r) l → v r .accepting ≡ true
   tried i r l e ne f (past g) = waits-elim (λ at. Past at (v r .accepting) l → v r .accepting ≡ true) (λ a. a) (v r .place) (inv .paired p r (λ a. ne (sym a)) .tries i l f (rw e refl) g) g
   tried i r l e ne f (trying g) = absurd (inv .paired p r (λ a. ne (sym a)) .never i l f (rw e refl) g)
 
   -- rule 8: a partner that waits has no guard that matches, or the search would have found it
-  rule-8 : (i : ℕ) → v p .place ≡ Trying i
+  rule-8 : (i : ℕ) → v p .place ≡ Place.Trying i
       → ((l : ℕ) → v (ownGuard (v p) i .partner) .accepting ≡ true → guardsMatch p (ownGuard (v p) i) (ownGuard (v p) i .partner) (ownGuard (v (ownGuard (v p) i .partner)) l) ≡ true → ⊥)
       → Inv n next (effected v p (ownGuard (v p) i .partner) (scanFrom (v p) (suc i)))
   rule-8 i e missing = advance _ _ e (suc i) (λ a. a) refl (fine v inv p _ e)
@@ -121,15 +117,15 @@ module _ {n next : ℕ} (v : View) (inv : Inv n next v) (p : ℕ) where
       moves v inv p _ refl _ _ _ (shows-elim (λ at. Fine at (ownList (v p)) (postedList (v p)) (v p .accepting) signal) h h (v p .place) (b .shows)) (inv .alone p .on) (search (inl, unheld))
 
   -- the own part of rule 7, where no other process has committed to the partner
-  committed : (i j : ℕ) → v p .place ≡ Trying i → (q : ℕ) → ownGuard (v p) i .partner ≡ q → Bound (v q) → guardsMatch p (ownGuard (v p) i) q (ownGuard (v q) j) ≡ true
+  committed : (i j : ℕ) → v p .place ≡ Place.Trying i → (q : ℕ) → ownGuard (v p) i .partner ≡ q → Bound (v q) → guardsMatch p (ownGuard (v p) i) q (ownGuard (v q) j) ≡ true
       → ((r k l : ℕ) → Commits (v r .place) k l → q ≡ ownGuard (v r) k .partner → ⊥)
-      → Inv n next (upd v p (atPlace (v p) (Committed i j)))
+      → Inv n next (upd v p (atPlace (v p) (Place.Committed i j)))
   committed i j e q z b f only =
       let rightly : (a c : ℕ) → (i ≡ a) × (j ≡ c) → Committing v p a c = λ a c g. rw (← g .0, ← g .1) (record { to = λ r ne m. let t : q ≡ r = sym z ∙ m in (rw (← t) b, rw (← t) f); only = λ r k l ne c m. only r k l c (sym z ∙ m) }) in
       moves v inv p _ e _ _ _ (fine v inv p _ e) (at-on v inv p i (rw e refl)) (search (absurd, inr, rightly, free v inv p _ e))
 
   -- an accepted offer: the list is new, and nothing is said of a process at E but that its ticket is the next one, which then grows
-  pub inv-offered : (id : TransactionId) (list : GuardList) (after : ℕ) → id .0 ≡ next → next < after → v p .place ≡ Idle → p < n → listFits n p (list .count) (slots (take (list .count) (list .guards))) ≡ true
+  pub inv-offered : (id : TransactionId) (list : GuardList) (after : ℕ) → id .0 ≡ next → next < after → v p .place ≡ Place.Idle → p < n → listFits n p (list .count) (slots (take (list .count) (list .guards))) ≡ true
       → Inv n after (upd v p (entering (v p) id list))
   unfolding entering
   inv-offered id list after z grows e h fits = put-inv v p _ later (record { fine = fine v inv p _ e; own = fits; on = tt; there = λ _. h; given = λ _. omega arith })
@@ -156,14 +152,14 @@ module _ {n next : ℕ} (v : View) (inv : Inv n next v) (p : ℕ) where
         paired = inv .paired;
       }
 
-  pub inv-collected : (i : ℕ) (m : Message) → v p .place ≡ Met i m → Inv n next (upd v p (atPlace (v p) Idle))
+  pub inv-collected : (i : ℕ) (m : Message) → v p .place ≡ Place.Met i m → Inv n next (upd v p (atPlace (v p) Place.Idle))
   inv-collected i m e = moves v inv p _ e _ _ _ (fine v inv p _ e) tt (search (absurd, free v inv p _ e))
 
 module _ {n next : ℕ} (v : View) (inv : Inv n next v) (p i j : ℕ) where
   -- the partner first, then the mover
-  rule-7 : let q = ownGuard (v p) i .partner in v p .place ≡ Trying i → v q .accepting ≡ true
-      → guardsMatch p (ownGuard (v p) i) q (postedGuard (v q) j) ≡ true → Inv n next (upd (upd v q (withAccepting (v q) false)) p (atPlace (v p) (Committed i j)))
-  rule-7 e z f = subst (λ (x : Process). x .place ≡ Trying i → ownGuard x i .partner ≡ q → guardsMatch p (ownGuard x i) q (ownGuard (u q) j) ≡ true → Inv n next (upd u p (atPlace x (Committed i j)))) up
+  rule-7 : let q = ownGuard (v p) i .partner in v p .place ≡ Place.Trying i → v q .accepting ≡ true
+      → guardsMatch p (ownGuard (v p) i) q (postedGuard (v q) j) ≡ true → Inv n next (upd (upd v q (withAccepting (v q) false)) p (atPlace (v p) (Place.Committed i j)))
+  rule-7 e z f = subst (λ (x : Process). x .place ≡ Place.Trying i → ownGuard x i .partner ≡ q → guardsMatch p (ownGuard x i) q (ownGuard (u q) j) ≡ true → Inv n next (upd u p (atPlace x (Place.Committed i j)))) up
       (λ e′ z′ f′. committed u (woken v inv q z) p i j e′ q z′ (rw uq (record { shows = s; woken = refl; deaf = shown v inv q s .deaf z })) f′ only)
       e refl (rw uq (rw (shown v inv q s .posted) at f))
     where
@@ -188,15 +184,15 @@ module _ {n next : ℕ} (v : View) (inv : Inv n next v) (p i j : ℕ) where
           (λ r ne k l c m. false≢true (sym (inv .paired r q ne .bound k l c (sym m) .0 .woken) ∙ z))
 
   -- the mover first, then the partner: no other process has committed to it
-  rule-9 : let q = ownGuard (v p) i .partner in (k : ℕ) (m : Message) (signal : Signal) → v p .place ≡ Committed i j → Inv n next (upd (upd v q (withSignal (v q) signal)) p (atPlace (v p) (Met k m)))
-  rule-9 k m signal e = rw (upd-comm v p q (atPlace (v p) (Met k m)) (withSignal (v q) signal) ne)
+  rule-9 : let q = ownGuard (v p) i .partner in (k : ℕ) (m : Message) (signal : Signal) → v p .place ≡ Place.Committed i j → Inv n next (upd (upd v q (withSignal (v q) signal)) p (atPlace (v p) (Place.Met k m)))
+  rule-9 k m signal e = rw (upd-comm v p q (atPlace (v p) (Place.Met k m)) (withSignal (v q) signal) ne)
       (subst (λ (y : Process). Bound y → Inv n next (upd u q (withSignal y signal))) uq (λ b. told u met q signal b alone) (commit-binds v inv p i j e .0))
     where
       q : ℕ
       q = ownGuard (v p) i .partner
 
       u : View
-      u = upd v p (atPlace (v p) (Met k m))
+      u = upd v p (atPlace (v p) (Place.Met k m))
 
       met : Inv n next u
       met = moves v inv p _ e _ _ _ (fine v inv p _ e) tt (search (absurd, free v inv p _ e))
@@ -215,39 +211,39 @@ module _ {n next : ℕ} (v : View) (inv : Inv n next v) (p i j : ℕ) where
 
 -- The rules, by the place and what they read. Most say nothing new of any guard, so that nothing is left to show but what holds of the mover alone.
 module _ {n next : ℕ} (v : View) (inv : Inv n next v) (p : ℕ) where
-  inv-scan : (i : ℕ) → v p .place ≡ Scanning i → let q = ownGuard (v p) i .partner in (s : State) → stateOf (v q .place) ≡ s → (older : Bool) → Inv n next (effected v p q (scan (v p) i s older))
-  inv-scan i e Running f older = rule-3 v inv p i e (rw f tt)
-  inv-scan i e Sleeping f older = rule-3 v inv p i e (rw f tt)
+  inv-scan : (i : ℕ) → v p .place ≡ Place.Scanning i → let q = ownGuard (v p) i .partner in (s : State) → stateOf (v q .place) ≡ s → (older : Bool) → Inv n next (effected v p q (scan (v p) i s older))
+  inv-scan i e State.Running f older = rule-3 v inv p i e (rw f tt)
+  inv-scan i e State.Sleeping f older = rule-3 v inv p i e (rw f tt)
   inv-scan i e State.Waiting f older = rule-4 v inv p i e (rw f tt)
-  inv-scan i e Alt f true = moves v inv p _ e _ _ _ (fine v inv p _ e) tt (search (absurd, free v inv p _ e))
-  inv-scan i e Alt f false = inv
+  inv-scan i e State.Alt f true = moves v inv p _ e _ _ _ (fine v inv p _ e) tt (search (absurd, free v inv p _ e))
+  inv-scan i e State.Alt f false = inv
 
-  inv-try : (i : ℕ) → v p .place ≡ Trying i → let q = ownGuard (v p) i .partner in
+  inv-try : (i : ℕ) → v p .place ≡ Place.Trying i → let q = ownGuard (v p) i .partner in
       (accepting : Bool) → v q .accepting ≡ accepting → (found : Found) → Searched p (ownGuard (v p) i) q (postedList (v q)) found → Inv n next (effected v p q (try (v p) i (v q) accepting found))
-  inv-try i e true f (At j) s = rule-7 v inv p i j e f s
-  inv-try i e true f Missing s = rule-8 v inv p i e (λ l z g. s l (rw (shown v inv _ (accepts v inv _ z) .posted) g))
-  inv-try i e false f (At j) s = rule-8 v inv p i e (λ l z g. false≢true (sym f ∙ z))
-  inv-try i e false f Missing s = rule-8 v inv p i e (λ l z g. false≢true (sym f ∙ z))
+  inv-try i e true f (Found.At j) s = rule-7 v inv p i j e f s
+  inv-try i e true f Found.Missing s = rule-8 v inv p i e (λ l z g. s l (rw (shown v inv _ (accepts v inv _ z) .posted) g))
+  inv-try i e false f (Found.At j) s = rule-8 v inv p i e (λ l z g. false≢true (sym f ∙ z))
+  inv-try i e false f Found.Missing s = rule-8 v inv p i e (λ l z g. false≢true (sym f ∙ z))
 
-  inv-absorb : v p .place ≡ Waiting → (signal : Signal) → v p .signal ≡ signal → Inv n next (effected v p 0 (absorb (v p) signal))
-  inv-absorb e Absent f = inv
-  inv-absorb e (Present j m) f =
+  inv-absorb : v p .place ≡ Place.Waiting → (signal : Signal) → v p .signal ≡ signal → Inv n next (effected v p 0 (absorb (v p) signal))
+  inv-absorb e Signal.Absent f = inv
+  inv-absorb e (Signal.Present j m) f =
       let b : (x : Process) → Held v p → Bound x = λ x h. absurd (absent-present _ j m (held v inv p h .deaf) f) in
       moves v inv p _ e _ _ _ (told-woken _ _ j m (fine v inv p _ e .deaf) f, refl) tt (search (absurd, b))
 
   inv-at : (pl : Place) → v p .place ≡ pl → let q = namedBy (v p) (indexOf pl) in Inv n next (effected v p q (ruleAt p (v p) q (v q) pl))
   unfolding handOver
-  inv-at Idle e = inv
-  inv-at Entering e = enter v inv p _ _ e (λ a. a) refl (fine v inv p _ e)
-  inv-at (Scanning i) e = inv-scan i e _ refl _
-  inv-at (Trying i) e = inv-try i e _ refl _ (searched p (ownGuard (v p) i) (ownGuard (v p) i .partner) (postedList (v (ownGuard (v p) i .partner))))
-  inv-at (Committed i j) e = rule-9 v inv p i j _ _ _ e
-  inv-at Posting e = tame v inv p _ e _ refl refl (search (absurd, free v inv p _ e)) (fine v inv p _ e, refl) (inv .alone p .own) tt
-  inv-at Opening e = let f = fine v inv p _ e in moves v inv p _ e _ _ _ (record { posted = f .1; deaf = λ _. f .0 .1 }) tt (search (absurd, free v inv p _ e))
-  inv-at Showing e = moves v inv p _ e _ _ _ (fine v inv p _ e) tt (search (absurd, still v inv p))
-  inv-at Asleep e = enter v inv p _ _ e (λ a. a) refl (fine v inv p _ e)
-  inv-at Waiting e = inv-absorb e (v p .signal) refl
-  inv-at (Met i m) e = inv
+  inv-at Place.Idle e = inv
+  inv-at Place.Entering e = enter v inv p _ _ e (λ a. a) refl (fine v inv p _ e)
+  inv-at (Place.Scanning i) e = inv-scan i e _ refl _
+  inv-at (Place.Trying i) e = inv-try i e _ refl _ (searched p (ownGuard (v p) i) (ownGuard (v p) i .partner) (postedList (v (ownGuard (v p) i .partner))))
+  inv-at (Place.Committed i j) e = rule-9 v inv p i j _ _ _ e
+  inv-at Place.Posting e = tame v inv p _ e _ refl refl (search (absurd, free v inv p _ e)) (fine v inv p _ e, refl) (inv .alone p .own) tt
+  inv-at Place.Opening e = let f = fine v inv p _ e in moves v inv p _ e _ _ _ (record { posted = f .1; deaf = λ _. f .0 .1 }) tt (search (absurd, free v inv p _ e))
+  inv-at Place.Showing e = moves v inv p _ e _ _ _ (fine v inv p _ e) tt (search (absurd, still v inv p))
+  inv-at Place.Asleep e = enter v inv p _ _ e (λ a. a) refl (fine v inv p _ e)
+  inv-at Place.Waiting e = inv-absorb e (v p .signal) refl
+  inv-at (Place.Met i m) e = inv
 
 -- a step keeps the invariant
 pub inv-rule : {n next : ℕ} (v : View) → Inv n next v → (p : ℕ) → let q = partnerOf (v p) in Inv n next (effected v p q (rule p (v p) q (v q)))

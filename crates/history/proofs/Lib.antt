@@ -3,7 +3,9 @@ pub mod Claimed
 pub mod Commit
 pub mod Due
 pub mod EveryCall
+pub mod EveryList
 pub mod Facts
+pub mod Fitting
 pub mod Followed
 pub mod Formed
 pub mod Further

@@ -11,11 +11,9 @@ use lib.Seq.{getD-drop}
 use lib.Dec.{eqb, leb}
 use borrow.Author.Tests.{eqb-true, eqb-false, ltb-true, not-true}
 use Rattle.alternative.specs.declared.Action.{Action}
-use Rattle.alternative.specs.declared.Action.the-variants.{Receive, Send}
 use Rattle.alternative.specs.declared.Guard.{Guard}
 use Rattle.alternative.specs.declared.Found.{Found}
-use Rattle.alternative.specs.declared.Found.the-variants.{At, Missing}
-use Rattle.alternative.specs.Guards.{mostGuards, blank, opposite, guardsMatch, anyGuard, offersMatch, firstFrom, firstMatch, nextEnabled}
+use Rattle.alternative.specs.Guards.{mostGuards, blank, opposite, guardsMatch, anyGuard, offersMatch, firstFrom, keptMatch, nextEnabled}
 use Rattle.process.specs.Fits.{allGuards, partnerFits, listFits}
 use Rattle.alternative.proofs.Tests.{and-parts}
 use Rattle.history.proofs.Invariant.{On}
@@ -38,10 +36,10 @@ match {p} {g} {q} {h} e =
     record { here = a .0; there = b .0; to = eqb-true _ _ (c .0); back = eqb-true _ _ (d .0); one-sends = d .1 }
 
 opposite-comm : (a b : Action) → opposite a b ≡ opposite b a
-opposite-comm Receive Receive = refl
-opposite-comm Receive (Send m) = refl
-opposite-comm (Send m) Receive = refl
-opposite-comm (Send m) (Send k) = refl
+opposite-comm Action.Receive Action.Receive = refl
+opposite-comm Action.Receive (Action.Send m) = refl
+opposite-comm (Action.Send m) Action.Receive = refl
+opposite-comm (Action.Send m) (Action.Send k) = refl
 
 and-swap : (a b c : Bool) → (a && (b && c)) ≡ (b && (a && c))
 and-swap true b c = refl
@@ -60,30 +58,30 @@ test-elim P false f g = g refl
 
 -- A search stops at a guard that passes the test with none before it, or finds none.
 first-view : (P : Found → Type 0) (test : Guard → Bool) (hs : List Guard) (s : ℕ) → (test blank ≡ true → ⊥)
-    → ((i : ℕ) → test (getD hs i blank) ≡ true → ((k : ℕ) → k < i → test (getD hs k blank) ≡ true → ⊥) → P (At (s + i)))
-    → (((k : ℕ) → test (getD hs k blank) ≡ true → ⊥) → P Missing)
+    → ((i : ℕ) → test (getD hs i blank) ≡ true → ((k : ℕ) → k < i → test (getD hs k blank) ≡ true → ⊥) → P (Found.At (s + i)))
+    → (((k : ℕ) → test (getD hs k blank) ≡ true → ⊥) → P Found.Missing)
     → P (firstFrom test hs s)
 unfolding firstFrom
 first-view P test [] s off a b = b (λ k. off)
 first-view P test (g ∷ gs) s off a b = test-elim P (test g)
     (λ e. rw add-zero at (a 0 e (λ k l. absurd (omega arith))))
     (λ e. first-view P test gs (suc s) off
-    (λ i o n. subst P (ap At (omega arith)) (a (suc i) o (λ k. elim k [ zero ↦ λ l c. false≢true (sym e ∙ c) | suc j ↦ λ l c. n j (omega arith) c ])))
+    (λ i o n. subst P (ap Found.At (omega arith)) (a (suc i) o (λ k. elim k [ zero ↦ λ l c. false≢true (sym e ∙ c) | suc j ↦ λ l c. n j (omega arith) c ])))
     (λ n. b (λ k. elim k [ zero ↦ λ c. false≢true (sym e ∙ c) | suc j ↦ n j ])))
 
 -- what rule 7's search says: the guard that it finds matches, and where it finds none, none does
 abbrev pub Searched : ℕ → Guard → ℕ → List Guard → Found → Type 0
-Searched p g q hs (At j) = guardsMatch p g q (getD hs j blank) ≡ true
-Searched p g q hs Missing = (k : ℕ) → guardsMatch p g q (getD hs k blank) ≡ true → ⊥
+Searched p g q hs (Found.At j) = guardsMatch p g q (getD hs j blank) ≡ true
+Searched p g q hs Found.Missing = (k : ℕ) → guardsMatch p g q (getD hs k blank) ≡ true → ⊥
 
-pub searched : (p : ℕ) (g : Guard) (q : ℕ) (hs : List Guard) → Searched p g q hs (firstMatch p g q hs)
-unfolding firstMatch
-searched p g q hs = first-view (Searched p g q hs) (guardsMatch p g q) hs 0 (λ e. false≢true (match e .there)) (λ i e n. subst (λ (j : ℕ). Searched p g q hs (At j)) (omega arith) e) (λ n. n)
+pub searched : (p : ℕ) (g : Guard) (q : ℕ) (hs : List Guard) → Searched p g q hs (keptMatch p g q hs)
+unfolding keptMatch
+searched p g q hs = first-view (Searched p g q hs) (guardsMatch p g q) hs 0 (λ e. false≢true (match e .there)) (λ i e n. subst (λ (j : ℕ). Searched p g q hs (Found.At j)) (omega arith) e) (λ n. n)
 
 -- the first enabled guard at or after index s
 pub next-view : (P : Found → Type 0) (gs : List Guard) (s : ℕ)
-    → ((i : ℕ) → On gs i → ((k : ℕ) → s ≤ k → k < i → On gs k → ⊥) → P (At i))
-    → (((k : ℕ) → s ≤ k → On gs k → ⊥) → P Missing)
+    → ((i : ℕ) → On gs i → ((k : ℕ) → s ≤ k → k < i → On gs k → ⊥) → P (Found.At i))
+    → (((k : ℕ) → s ≤ k → On gs k → ⊥) → P Found.Missing)
     → P (nextEnabled gs s)
 unfolding nextEnabled
 next-view P gs s a b = first-view P (λ g. g .enabled) (drop s gs) s false≢true

@@ -6,7 +6,7 @@ use mathlib.Core.Logic.{_⊎_, inl, inr, ⊎-elim}
 use mathlib.Core.Option.{Option, some, none, Option·some-injective, Option·none-ne-some}
 use native.Mathlib.Omega.{arith}
 use Rattle.alternative.specs.declared.Guard.{Guard}
-use Rattle.history.specs.Book.{Transaction, Rendezvous, enteredFor}
+use Rattle.history.specs.Book.{Transaction, Rendezvous, Moment, Joined, enteredFor}
 use Rattle.history.specs.Demand3.{idsOf, NotIn, AllDiffer}
 use Rattle.history.proofs.View.{entered-each}
 
@@ -20,12 +20,12 @@ module _ (t u : ℕ) where
   differ-more [] ne d a b = ((ne, tt), (tt, tt))
   differ-more (s ∷ ts) ne d a b = (not-in-more s ts (d .0) (λ e. a .0 (sym e)) (λ e. b .0 (sym e)), differ-more ts ne (d .1) (a .1) (b .1))
 
-ids-more : (rs : List Rendezvous) (r : Rendezvous) → idsOf (rs ++ (r ∷ [])) ≡ idsOf rs ++ (r .idP ∷ r .idQ ∷ [])
+ids-more : (ms : List Moment) (r : Rendezvous) → idsOf (ms ++ (Joined r ∷ [])) ≡ idsOf ms ++ (r .idP ∷ r .idQ ∷ [])
 ids-more [] r = refl
-ids-more (s ∷ rs) r = rw (ids-more rs r)
+ids-more (Joined s ∷ ms) r = rw (ids-more ms r)
 
 -- of a book's next ticket, open offers and rendezvous
-pub record Once (next : ℕ) (opened : ℕ → Option Transaction) (run : List Rendezvous) : Type 0 where
+pub record Once (next : ℕ) (opened : ℕ → Option Transaction) (run : List Moment) : Type 0 where
   pub differ : AllDiffer (idsOf run)
   pub unused : (t : ℕ) → next ≤ t → NotIn t (idsOf run)
   pub below : (p : ℕ) (o : Transaction) → opened p ≡ some o → o .id < next
@@ -36,7 +36,7 @@ pub record Once (next : ℕ) (opened : ℕ → Option Transaction) (run : List R
 closed : (p : ℕ) (opened : ℕ → Option Transaction) (q : ℕ) (o : Transaction) → enteredFor p none opened q ≡ some o → (opened q ≡ some o) × (q ≡ p → ⊥)
 closed p opened q o = entered-each (λ q x. x ≡ some o → (opened q ≡ some o) × (q ≡ p → ⊥)) opened p none (λ e. absurd (Option·none-ne-some o e)) (λ q ne e. (e, ne)) q
 
-module _ {next : ℕ} {opened : ℕ → Option Transaction} {run : List Rendezvous} (k : Once next opened run) where
+module _ {next : ℕ} {opened : ℕ → Option Transaction} {run : List Moment} (k : Once next opened run) where
   pub once-offers : (p : ℕ) (gs : List Guard) → Once (suc next) (enteredFor p (some (record { id = next; guards = gs })) opened) run
   once-offers p gs = record {
     differ = k .differ;
@@ -55,7 +55,7 @@ module _ {next : ℕ} {opened : ℕ → Option Transaction} {run : List Rendezvo
 
   -- the offers o of p and s of q close, and their tickets have met in r
   pub once-commits : (p q : ℕ) (o s : Transaction) (r : Rendezvous) → (p ≡ q → ⊥) → opened p ≡ some o → opened q ≡ some s → r .idP ≡ o .id → r .idQ ≡ s .id
-      → Once next (enteredFor p none (enteredFor q none opened)) (run ++ (r ∷ []))
+      → Once next (enteredFor p none (enteredFor q none opened)) (run ++ (Joined r ∷ []))
   once-commits p q o s r ne e f a b = record {
     differ = rw z (differ-more (o .id) (s .id) (idsOf run) (k .apart p q o s ne e f) (k .differ) (k .unmet p o e) (k .unmet q s f));
     unused = λ t l. rw z (not-in-more (o .id) (s .id) t (idsOf run) (k .unused t l) (λ h. omega (arith, k .below p o e)) (λ h. omega (arith, k .below q s f)));
@@ -65,7 +65,7 @@ module _ {next : ℕ} {opened : ℕ → Option Transaction} {run : List Rendezvo
     apart = λ u w c d l g h. k .apart u w c d l (still u c g .0) (still w d h .0);
   }
     where
-      z : idsOf (run ++ (r ∷ [])) ≡ idsOf run ++ (o .id ∷ s .id ∷ [])
+      z : idsOf (run ++ (Joined r ∷ [])) ≡ idsOf run ++ (o .id ∷ s .id ∷ [])
       z = ids-more run r ∙ rw (a, b)
 
       still : (u : ℕ) (c : Transaction) → enteredFor p none (enteredFor q none opened) u ≡ some c → (opened u ≡ some c) × (u ≡ p → ⊥) × (u ≡ q → ⊥)

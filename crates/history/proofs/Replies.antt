@@ -6,44 +6,29 @@ use Rattle.alternative.specs.declared.Message.{Message}
 use Rattle.alternative.specs.declared.Guard.{Guard}
 use Rattle.alternative.specs.Guards.{lent}
 use Rattle.process.specs.declared.Place.{Place}
-use Rattle.process.specs.declared.Place.the-variants.{Idle, Entering, Scanning, Trying, Committed, Posting, Opening, Showing, Asleep, Waiting, Met}
 use Rattle.rendezvous.specs.declared.ProcessTable.{ProcessTable}
 use Rattle.rendezvous.specs.declared.Refusal.{Refusal}
-use Rattle.rendezvous.specs.declared.Refusal.the-variants.{NotMet}
 use Rattle.rendezvous.specs.declared.Verdict.{Verdict}
-use Rattle.rendezvous.specs.declared.Verdict.the-variants.{Accepted, Refused}
 use Rattle.rendezvous.specs.declared.Reply.{Reply}
 use Rattle.rendezvous.specs.Table.{process}
 use Rattle.rendezvous.specs.Refusals.{processVerdict, offerVerdict}
 use Rattle.rendezvous.specs.Calls.{refused, ifAccepted, offered, offerList, offer, stepped, step, collected, collect}
+use Rattle.process.proofs.PlaceCases.{if-met}
 use Rattle.rendezvous.proofs.Verdicts.{process-passed, Admitted, offer-passed}
 
 module _ (P : Reply → Type 0) (t : ProcessTable) (turned-away : (r : Refusal) → P (refused r t)) (p : ℕ) where
-  verdict-elim : (verdict : Verdict) (reply : Reply) → (verdict ≡ Accepted → P reply) → P (ifAccepted verdict t reply)
-  verdict-elim Accepted reply h = h refl
-  verdict-elim (Refused r) reply h = turned-away r
+  verdict-elim : (verdict : Verdict) (reply : Reply) → (verdict ≡ Verdict.Accepted → P reply) → P (ifAccepted verdict t reply)
+  verdict-elim Verdict.Accepted reply h = h refl
+  verdict-elim (Verdict.Refused r) reply h = turned-away r
 
   pub offer-elim : (gs : List Guard) → (Admitted t p (lent gs) → P (offered t p (lent gs))) → P (offer t p gs)
   unfolding offerList
   offer-elim gs h = verdict-elim (offerVerdict t p (lent gs)) _ (λ e. h (offer-passed t p (lent gs) e))
 
-  pub step-elim : (p < t .n → P (stepped t p)) → P (step t p)
+  pub step-elim : (p < t .head .n → P (stepped t p)) → P (step t p)
   unfolding step
   step-elim h = verdict-elim (processVerdict t p) _ (λ e. h (process-passed t p e .below))
 
-  pub collect-elim : (p < t .n → (i : ℕ) (m : Message) → process t p .place ≡ Met i m → P (collected t p (process t p) (Met i m))) → P (collect t p)
+  pub collect-elim : (p < t .head .n → (i : ℕ) (m : Message) → process t p .place ≡ Place.Met i m → P (collected t p (process t p) (Place.Met i m))) → P (collect t p)
   unfolding collect
-  collect-elim h = verdict-elim (processVerdict t p) _ (λ e. at (process t p .place) (h (process-passed t p e .below)))
-    where
-      at : (pl : Place) → ((i : ℕ) (m : Message) → pl ≡ Met i m → P (collected t p (process t p) (Met i m))) → P (collected t p (process t p) pl)
-      at Idle k = turned-away NotMet
-      at Entering k = turned-away NotMet
-      at (Scanning i) k = turned-away NotMet
-      at (Trying i) k = turned-away NotMet
-      at (Committed i j) k = turned-away NotMet
-      at Posting k = turned-away NotMet
-      at Opening k = turned-away NotMet
-      at Showing k = turned-away NotMet
-      at Asleep k = turned-away NotMet
-      at Waiting k = turned-away NotMet
-      at (Met i m) k = k i m refl
+  collect-elim h = verdict-elim (processVerdict t p) _ (λ e. if-met P _ _ (process t p .place) (h (process-passed t p e .below)) (turned-away Refusal.NotMet))

@@ -1,9 +1,10 @@
 -- To be believed. Document 01, "The plain book".
-use Rattle.alternative.specs.Guards.{firstMatch}
+use Rattle.alternative.specs.Guards.{keptMatch}
 use Rattle.alternative.specs.Exchange.{sentBy}
 use Rattle.rendezvous.specs.Numbers.{Said, made, ticket, place, same, outcome, movers, refusal}
-use Rattle.history.specs.Types.{ℕ, suc, code, Bool, true, false, cond, List, [], _∷_, _++_, Option, some, none, getElem?, eqb, Message, Nothing, Action, Receive, Send, Guard, Found, At, Missing}
-use Rattle.history.specs.Run.{Call, Offer, Step, Collect}
+use Rattle.rendezvous.specs.Run.{Call, Offer, Step, Collect}
+use Rattle.history.specs.Types.{ℕ, suc, code, Bool, true, false, cond, List, [], _∷_, _++_, Option, some, none, getElem?, eqb, Message, Action, Guard}
+use Rattle.history.specs.Types.{Found}
 
 -- "For each party it has an open offer (ticket and guard list) or none, and a due outcome (guard index, partner, message) or none. It also has a next ticket and the
 -- meetings so far": a meeting has "both tickets, p, i, q, j and the sending guard's message".
@@ -25,11 +26,15 @@ pub record Rendezvous : Type 0 where
   pub j : ℕ
   pub message : Message
 
+-- the run of whole meetings: each moment of it is a meeting
+pub data Moment : Type 0 where
+  Joined : Rendezvous → Moment
+
 pub record History : Type 0 where
   pub next : ℕ
   pub opened : ℕ → Option Transaction
   pub due : ℕ → Option Due
-  pub run : List Rendezvous
+  pub run : List Moment
 
 -- "At first the next ticket is 0 and the rest is empty."
 abbrev pub emptyHistory : History
@@ -67,13 +72,13 @@ offering b p gs (some o) d = none
 
 -- "the sending guard's message": of the two guards' actions
 abbrev pub sendersMessage : Action → Action → Message
-sendersMessage (Send m) other = m
-sendersMessage Receive other = sentBy other
+sendersMessage (Action.Send m) other = m
+sendersMessage Action.Receive other = sentBy other
 
 -- "that message, or nothing for the message if guard i sends"
 abbrev pub dueMessage : Action → Message → Message
-dueMessage (Send k) m = Nothing
-dueMessage Receive m = m
+dueMessage (Action.Send k) m = Message.Nothing
+dueMessage Action.Receive m = m
 
 -- "A meeting is entered: .. Both offers close. Due for p are i, q and that message ..; for q likewise j and p.": g is guard i of p's offer, h guard j of q's
 unfoldable pub withRendezvous : History → ℕ → ℕ → Transaction → Guard → ℕ → Transaction → Guard → History
@@ -85,20 +90,20 @@ withRendezvous b p i mine g j theirs h =
       opened = enteredFor p none (enteredFor q none (b .opened));
       due = enteredFor p (some (record { index = i; partner = q; message = dueMessage (g .action) m }))
           (enteredFor q (some (record { index = j; partner = p; message = dueMessage (h .action) m })) (b .due));
-      run = b .run ++ (record { idP = mine .id; idQ = theirs .id; p = p; i = i; q = q; j = j; message = m } ∷ []);
+      run = b .run ++ (Joined (record { idP = mine .id; idQ = theirs .id; p = p; i = i; q = q; j = j; message = m }) ∷ []);
     }
 
 -- "guard i of p's open offer names q, and j is the index that rule 7's search keeps, with q's open list as the posted one"
 abbrev foundIndex : Found → Option ℕ
-foundIndex (At j) = some j
-foundIndex Missing = none
+foundIndex (Found.At j) = some j
+foundIndex Found.Missing = none
 
 unfoldable pub committing : History → ℕ → ℕ → Option History
 committing b p i = do
   mine ← b .opened p
   g ← getElem? (mine .guards) i
   theirs ← b .opened (g .partner)
-  j ← foundIndex (firstMatch p g (g .partner) (theirs .guards))
+  j ← foundIndex (keptMatch p g (g .partner) (theirs .guards))
   h ← getElem? (theirs .guards) j
   some (withRendezvous b p i mine g j theirs h)
 
@@ -115,12 +120,10 @@ collecting b p (some d) = some (record { next = b .next; opened = b .opened; due
 
 -- the book after a call; "every refused call: nothing changes"
 unfoldable pub enter : History → Call → Seen → Option History
-enter b (Offer p gs) refused = some b
+enter b c refused = some b
 enter b (Offer p gs) accepted = offering b p gs (b .opened p) (b .due p)
 enter b (Offer p gs) (at letter index) = none
-enter b (Step p) refused = some b
 enter b (Step p) accepted = some b
 enter b (Step p) (at letter index) = stepping b p (eqb letter (code "C")) index
-enter b (Collect p) refused = some b
 enter b (Collect p) accepted = collecting b p (b .due p)
 enter b (Collect p) (at letter index) = none

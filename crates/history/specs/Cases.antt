@@ -2,22 +2,12 @@
 use mathlib.Core.List.{map}
 use lib.Ieee.{binary32, ofBits}
 use Rattle.process.specs.Process.{freshProcess}
-use Rattle.rendezvous.specs.Table.{mostProcesses, freshTable}
-use Rattle.rendezvous.specs.Calls.{create, runnable}
+use Rattle.rendezvous.specs.Table.{mostProcesses, withNext, freshHead, freshTable}
 use Rattle.rendezvous.specs.Numbers.{Said, made, ticket, place, same, outcome, movers, refusal, said}
-use Rattle.history.specs.Types.{ℕ, Char, code, _≡_, true, false, List, [], _∷_, _++_, Option, some, none, replicate, Message, Nothing, Reading, Receive, Send, Guard, ProcessTable, Reply}
-use Rattle.history.specs.Run.{Call, Offer, Step, Collect, replyTo}
-
--- a new table, one of the calls of demand 3, or movers
-pub data Command : Type 0 where
-  New : ℕ → Command
-  Do : Call → Command
-  Movers : Command
-
-unfoldable pub replyToCommand : ProcessTable → Command → Reply
-replyToCommand t (New n) = create n
-replyToCommand t (Do c) = replyTo t c
-replyToCommand t Movers = runnable t
+use Rattle.rendezvous.specs.Run.{Call, Offer, Step, Collect}
+use Rattle.rendezvous.specs.Commands.{Command, New, Do, Movers, replyToCommand}
+use Rattle.history.specs.Types.{ℕ, Char, code, _≡_, true, false, List, [], _∷_, _++_, Option, some, none, replicate, Message, Action, Guard}
+use Rattle.history.specs.Types.{ProcessTable}
 
 -- what the commands of a list say, each getting the table that the last one handed back
 unfoldable pub allSaid : ProcessTable → List Command → List Said
@@ -41,23 +31,23 @@ collects p = Do (Collect p)
 
 -- guards as the script writes them: q?, q! with a message or the bits of a reading, and -q?
 abbrev pub receive : ℕ → Guard
-receive q = record { enabled = true; partner = q; action = Receive }
+receive q = record { enabled = true; partner = q; action = Action.Receive }
 
 abbrev pub reading : ℕ → Message
-reading bits = Reading (ofBits binary32 bits)
+reading bits = Message.Reading (ofBits binary32 bits)
 
 abbrev pub sends : ℕ → Message → Guard
-sends q m = record { enabled = true; partner = q; action = Send m }
+sends q m = record { enabled = true; partner = q; action = Action.Send m }
 
 abbrev pub send : ℕ → ℕ → Guard
 send q bits = sends q (reading bits)
 
 abbrev pub disabled : ℕ → Guard
-disabled q = record { enabled = false; partner = q; action = Receive }
+disabled q = record { enabled = false; partner = q; action = Action.Receive }
 
 -- a fresh table of two processes, but for its next ticket
-abbrev withNext : ℕ → ProcessTable
-withNext next = record { n = 2; next = record { 0 = next }; processes = replicate mostProcesses freshProcess }
+abbrev from : ℕ → ProcessTable
+from next = record { head = withNext (freshHead 2) next; processes = replicate mostProcesses freshProcess }
 
 -- a place by its letter, with the guard index at A, T and C
 abbrev pub at : Char → Option ℕ → Said
@@ -79,7 +69,7 @@ sessionSays m =
     made ∷ ticket 0 ∷ ticket 1
     ∷ at "A" (some 0) ∷ at "P" none ∷ at "O" none ∷ at "H" none ∷ at "W" none
     ∷ at "A" (some 0) ∷ at "T" (some 0) ∷ at "C" (some 0) ∷ at "M" none ∷ at "M" none
-    ∷ outcome 0 0 m ∷ outcome 0 1 Nothing ∷ movers 0 ∷ []
+    ∷ outcome 0 0 m ∷ outcome 0 1 Message.Nothing ∷ movers 0 ∷ []
 
 abbrev pub case : List Command → List Said → Case
 case commands says = record { start = freshTable 0; commands = commands; says = says }
@@ -104,8 +94,8 @@ starred =
     ∷ case (New 2 ∷ offers 0 (disabled 1 ∷ disabled 1 ∷ []) ∷ []) (made ∷ refusal 6 ∷ [])
     ∷ case (New 2 ∷ offers 0 (receive 1 ∷ []) ∷ offers 0 (receive 1 ∷ []) ∷ []) (made ∷ ticket 0 ∷ refusal 11 ∷ [])
     -- next ticket 4,294,967,294 is given out; at 4,294,967,295: 12
-    ∷ record { start = withNext 4294967294; commands = offers 0 (receive 1 ∷ []) ∷ offers 1 (receive 0 ∷ []) ∷ []; says = ticket 4294967294 ∷ refusal 12 ∷ [] }
-    ∷ record { start = withNext 4294967295; commands = offers 0 (receive 1 ∷ []) ∷ []; says = refusal 12 ∷ [] }
+    ∷ record { start = from 4294967294; commands = offers 0 (receive 1 ∷ []) ∷ offers 1 (receive 0 ∷ []) ∷ []; says = ticket 4294967294 ∷ refusal 12 ∷ [] }
+    ∷ record { start = from 4294967295; commands = offers 0 (receive 1 ∷ []) ∷ []; says = refusal 12 ∷ [] }
     -- parties 0 and 1, one guard each, at A on each other, tickets 0 and 1: a step of 0 changes nothing; a step of 1 puts it to S; then a step of 0 goes to P
     ∷ case
     (New 2 ∷ offers 0 (send 1 0x40970a3d ∷ []) ∷ offers 1 (receive 0 ∷ []) ∷ steps 0 ∷ steps 1 ∷ steps 0 ∷ steps 1 ∷ steps 0 ∷ [])

@@ -4,34 +4,38 @@ use lib.Ieee.{binary32, ofBits}
 use lib.ListN.{length, take}
 use Rattle.alternative.specs.Guards.{slots}
 use Rattle.process.specs.declared.Signal.{Signal}
-use Rattle.process.specs.declared.Signal.the-variants.{Absent, Present}
 use Rattle.process.specs.Process.{freshProcess}
-use Rattle.rendezvous.specs.Table.{process, freshTable, hasOpenOffer}
+use Rattle.rendezvous.specs.Table.{mostProcesses, process, withNext, freshHead, freshTable, hasOpenOffer}
 use Rattle.rendezvous.specs.Numbers.{Said, made, ticket, outcome, movers, refusal}
-use Rattle.history.specs.Types.{ℕ, _≡_, Bool, true, false, List, [], _∷_, _++_, Option, some, none, replicate, Message, Nothing, Limit, Send, Guard, Place, Idle, Entering, Scanning, Trying, Committed, Waiting, Met, Process, ProcessTable}
-use Rattle.history.specs.Run.{Call, Offer, tableAfter}
-use Rattle.history.specs.Book.{Rendezvous, emptyHistory, _>>=_}
-use Rattle.history.specs.Demand3.{bookAfterAll, commitsOf, Claim}
-use Rattle.history.specs.Cases.{New, Movers, Case, offers, steps, collects, receive, reading, sends, send, disabled, at, sessionCalls, session, sessionSays, case, Hold}
+use Rattle.rendezvous.specs.Run.{Call, Offer, tableAfter}
+use Rattle.rendezvous.specs.Commands.{New, Movers}
+use Rattle.history.specs.Types.{ℕ, _≡_, Bool, true, false, List, [], _∷_, _++_, Option, some, none, replicate, Message, Action, Guard, Place, Process}
+use Rattle.history.specs.Types.{ProcessTable}
+use Rattle.history.specs.Book.{Moment, Joined, emptyHistory, _>>=_}
+use Rattle.history.specs.Machine.{bookAfterAll, madeByAll}
+use Rattle.history.specs.Tables.{tables}
+use Rattle.history.specs.Demand3.{Claim}
+use Rattle.history.specs.Cases.{Case, offers, steps, collects, receive, reading, sends, send, disabled, at, sessionCalls, session, sessionSays, case}
+use Rattle.history.specs.Cases.{Hold}
 
 abbrev limit : ℕ → ℕ → Message
-limit low high = Limit (ofBits binary32 low) (ofBits binary32 high)
+limit low high = Message.Limit (ofBits binary32 low) (ofBits binary32 high)
 
 -- a record by hand: ticket, place, signal, whether the wake count is 0, own list and posted list
 abbrev by-hand : ℕ → Place → Signal → Bool → List Guard → List Guard → Process
 by-hand id place signal accepting own posted = record { place = place; signal = signal; transaction = record { 0 = id }; accepting = accepting; count = length own; altcount = length posted; guards = slots own; altlist = slots posted }
 
--- a table by hand: the number of processes, the next ticket, and the first of its 32 records; the others are fresh
+-- a table by hand: the number of processes, the next ticket, and the first of its records; the others are fresh
 abbrev table : ℕ → ℕ → List Process → ProcessTable
-table n next records = record { n = n; next = record { 0 = next }; processes = take 32 (records ++ replicate 32 freshProcess) }
+table n next records = record { head = withNext (freshHead n) next; processes = take mostProcesses (records ++ replicate mostProcesses freshProcess) }
 
 -- Two processes: 0 at a place and with a signal, two guards in its own list and none posted; 1 at I, with one guard posted.
 abbrev first : Place → Signal → ProcessTable
-first place signal = table 2 2 (by-hand 0 place signal false (receive 1 ∷ receive 1 ∷ []) [] ∷ by-hand 1 Idle Absent false [] (receive 0 ∷ []) ∷ [])
+first place signal = table 2 2 (by-hand 0 place signal false (receive 1 ∷ receive 1 ∷ []) [] ∷ by-hand 1 Place.Idle Signal.Absent false [] (receive 0 ∷ []) ∷ [])
 
 -- two processes at I, of which 0 has these lists
 abbrev lists : List Guard → List Guard → ProcessTable
-lists own posted = table 2 2 (by-hand 0 Idle Absent false own posted ∷ freshProcess ∷ [])
+lists own posted = table 2 2 (by-hand 0 Place.Idle Signal.Absent false own posted ∷ freshProcess ∷ [])
 
 -- what movers say of a table: the set, or 7 where it is damaged
 abbrev on : ProcessTable → Said → Case
@@ -45,17 +49,17 @@ further =
     ∷ case (New 3 ∷ offers 0 (receive 3 ∷ []) ∷ offers 0 (receive 2 ∷ []) ∷ offers 1 (send 0 0x7f800000 ∷ []) ∷ []) (made ∷ refusal 4 ∷ ticket 0 ∷ ticket 1 ∷ [])
     -- "4, then 5, guard by guard", and "Disabled guards are tested too": 5 before 6
     ∷ case (New 2 ∷ offers 0 (send 0 0x7fc00000 ∷ []) ∷ offers 0 (send 1 0x7fc00000 ∷ receive 0 ∷ []) ∷ []) (made ∷ refusal 4 ∷ refusal 5 ∷ [])
-    ∷ case (New 2 ∷ offers 0 (record { enabled = false; partner = 1; action = Send (reading 0x7fc00000) } ∷ []) ∷ []) (made ∷ refusal 5 ∷ [])
+    ∷ case (New 2 ∷ offers 0 (record { enabled = false; partner = 1; action = Action.Send (reading 0x7fc00000) } ∷ []) ∷ []) (made ∷ refusal 5 ∷ [])
     -- a NaN in either half of a limit gives 5
     ∷ case (New 2 ∷ offers 0 (sends 1 (limit 0x40970a3d 0x7fc00000) ∷ []) ∷ offers 0 (sends 1 (limit 0x7fc00000 0x40970a3d) ∷ []) ∷ []) (made ∷ refusal 5 ∷ refusal 5 ∷ [])
     -- 11 before 12
-    ∷ record { start = table 2 4294967295 (by-hand 0 Entering Absent false (receive 1 ∷ []) [] ∷ freshProcess ∷ []); commands = offers 0 (receive 1 ∷ []) ∷ offers 1 (receive 0 ∷ []) ∷ []; says = refusal 11 ∷ refusal 12 ∷ [] }
+    ∷ record { start = table 2 4294967295 (by-hand 0 Place.Entering Signal.Absent false (receive 1 ∷ []) [] ∷ freshProcess ∷ []); commands = offers 0 (receive 1 ∷ []) ∷ offers 1 (receive 0 ∷ []) ∷ []; says = refusal 11 ∷ refusal 12 ∷ [] }
     -- collecting at I and at W: 13
     ∷ case
     (New 2 ∷ collects 0 ∷ offers 0 (receive 1 ∷ []) ∷ steps 0 ∷ steps 0 ∷ steps 0 ∷ steps 0 ∷ steps 0 ∷ collects 0 ∷ [])
     (made ∷ refusal 13 ∷ ticket 0 ∷ at "A" (some 0) ∷ at "P" none ∷ at "O" none ∷ at "H" none ∷ at "W" none ∷ refusal 13 ∷ [])
     -- on a damaged table 7, whatever is called, and before all others
-    ∷ record { start = first (Scanning 2) Absent; commands = offers 0 (receive 1 ∷ []) ∷ offers 9 [] ∷ steps 0 ∷ steps 9 ∷ collects 0 ∷ Movers ∷ []; says = replicate 6 (refusal 7) }
+    ∷ record { start = first (Place.Scanning 2) Signal.Absent; commands = offers 0 (receive 1 ∷ []) ∷ offers 9 [] ∷ steps 0 ∷ steps 9 ∷ collects 0 ∷ Movers ∷ []; says = replicate 6 (refusal 7) }
     -- 7: n is outside 2 to 32
     ∷ on (freshTable 1) (refusal 7) ∷ on (freshTable 2) (movers 0) ∷ on (freshTable 32) (movers 0) ∷ on (freshTable 33) (refusal 7)
     -- 7: over eight guards in a list or posted list; a guard of either names its own party or one not below n
@@ -64,11 +68,11 @@ further =
     ∷ on (lists (disabled 0 ∷ []) []) (refusal 7) ∷ on (lists [] (disabled 0 ∷ [])) (refusal 7)
     ∷ on (lists (receive 2 ∷ []) []) (refusal 7) ∷ on (lists [] (receive 2 ∷ [])) (refusal 7)
     -- 7: the index in A, T, C, a signal or an outcome, 1 and 2 of an own list of two; a kept index, 0 and 1 of a posted list of one
-    ∷ on (first (Scanning 1) Absent) (movers 1) ∷ on (first (Scanning 2) Absent) (refusal 7)
-    ∷ on (first (Trying 1) Absent) (movers 1) ∷ on (first (Trying 2) Absent) (refusal 7)
-    ∷ on (first (Committed 1 0) Absent) (movers 1) ∷ on (first (Committed 2 0) Absent) (refusal 7) ∷ on (first (Committed 1 1) Absent) (refusal 7)
-    ∷ on (first Waiting (Present 1 Nothing)) (movers 1) ∷ on (first Waiting (Present 2 Nothing)) (refusal 7)
-    ∷ on (first (Met 1 Nothing) Absent) (movers 0) ∷ on (first (Met 2 Nothing) Absent) (refusal 7)
+    ∷ on (first (Place.Scanning 1) Signal.Absent) (movers 1) ∷ on (first (Place.Scanning 2) Signal.Absent) (refusal 7)
+    ∷ on (first (Place.Trying 1) Signal.Absent) (movers 1) ∷ on (first (Place.Trying 2) Signal.Absent) (refusal 7)
+    ∷ on (first (Place.Committed 1 0) Signal.Absent) (movers 1) ∷ on (first (Place.Committed 2 0) Signal.Absent) (refusal 7) ∷ on (first (Place.Committed 1 1) Signal.Absent) (refusal 7)
+    ∷ on (first Place.Waiting (Signal.Present 1 Message.Nothing)) (movers 1) ∷ on (first Place.Waiting (Signal.Present 2 Message.Nothing)) (refusal 7)
+    ∷ on (first (Place.Met 1 Message.Nothing) Signal.Absent) (movers 0) ∷ on (first (Place.Met 2 Message.Nothing) Signal.Absent) (refusal 7)
     -- Rules 1 and 8: process 0 starts at its first enabled guard, 1. It finds no match at T, for 2 receives as it does, and goes on to guard 2, not back to 1.
     ∷ case
     (New 3 ∷ offers 2 (receive 0 ∷ []) ∷ Movers ∷ steps 2 ∷ steps 2 ∷ steps 2 ∷ steps 2 ∷ steps 2
@@ -80,7 +84,7 @@ further =
     (New 2 ∷ offers 0 (receive 1 ∷ receive 1 ∷ []) ∷ steps 0 ∷ steps 0 ∷ steps 0 ∷ steps 0 ∷ steps 0 ∷ steps 0
     ∷ offers 1 (send 0 0x40970a3d ∷ []) ∷ steps 1 ∷ steps 1 ∷ steps 1 ∷ steps 1 ∷ steps 0 ∷ collects 0 ∷ collects 1 ∷ [])
     (made ∷ ticket 0 ∷ at "A" (some 0) ∷ at "A" (some 1) ∷ at "P" none ∷ at "O" none ∷ at "H" none ∷ at "W" none
-    ∷ ticket 1 ∷ at "A" (some 0) ∷ at "T" (some 0) ∷ at "C" (some 0) ∷ at "M" none ∷ at "M" none ∷ outcome 0 1 (reading 0x40970a3d) ∷ outcome 0 0 Nothing ∷ [])
+    ∷ ticket 1 ∷ at "A" (some 0) ∷ at "T" (some 0) ∷ at "C" (some 0) ∷ at "M" none ∷ at "M" none ∷ outcome 0 1 (reading 0x40970a3d) ∷ outcome 0 0 Message.Nothing ∷ [])
     -- a limit is collected, low and high
     ∷ case (session (limit 0x40970a3d 0x3f800000)) (sessionSays (limit 0x40970a3d 0x3f800000))
     ∷ []
@@ -88,18 +92,18 @@ further =
 -- An offer copies the list, gives the next ticket and sets E. It leaves the wake count, the signal and the posted list, here 0, present and not the own list (by the calls
 -- alone no process at I is so).
 abbrev signalled : ℕ → Place → List Guard → Process
-signalled id place own = by-hand id place (Present 0 (reading 0x40970a3d)) true own (receive 1 ∷ receive 1 ∷ [])
+signalled id place own = by-hand id place (Signal.Present 0 (reading 0x40970a3d)) true own (receive 1 ∷ receive 1 ∷ [])
 
 abbrev OfferLeaves : List Guard → List Guard → Type 0
-OfferLeaves old new = process (tableAfter (table 2 2 (signalled 0 Idle old ∷ freshProcess ∷ [])) (Offer 0 new)) 0 ≡ signalled 2 Entering new
+OfferLeaves old new = process (tableAfter (table 2 2 (signalled 0 Place.Idle old ∷ freshProcess ∷ [])) (Offer 0 new)) 0 ≡ signalled 2 Place.Entering new
 
 -- A record like that of an open offer, at index 2: it is open if 2 is a process, and not if n is 2.
 abbrev third : ℕ → ProcessTable
-third n = table n 1 (freshProcess ∷ freshProcess ∷ by-hand 0 Entering Absent false (receive 0 ∷ []) [] ∷ [])
+third n = table n 1 (freshProcess ∷ freshProcess ∷ by-hand 0 Place.Entering Signal.Absent false (receive 0 ∷ []) [] ∷ [])
 
 -- The marked session has one rendezvous, by the book and by the tables: process 1, whose ticket is 1, commits at its guard 0 to guard 0 of process 0, whose ticket is 0.
-abbrev marked : List Rendezvous
-marked = record { idP = 1; idQ = 0; p = 1; i = 0; q = 0; j = 0; message = reading 0x40970a3d } ∷ []
+abbrev marked : List Moment
+marked = Joined (record { idP = 1; idQ = 0; p = 1; i = 0; q = 0; j = 0; message = reading 0x40970a3d }) ∷ []
 
 abbrev markedCalls : List Call
 markedCalls = sessionCalls (reading 0x40970a3d)
@@ -109,9 +113,9 @@ pub record Further : Type 0 where
   pub offer-leaves : OfferLeaves (receive 1 ∷ []) (disabled 1 ∷ send 1 0x3f800000 ∷ [])
   pub open-at-2 : hasOpenOffer (third 3) 2 ≡ true
   pub not-open-at-n : hasOpenOffer (third 2) 2 ≡ false
-  pub commits : commitsOf (freshTable 2) markedCalls ≡ marked
-  pub book-run : _>>=_ (bookAfterAll (freshTable 2) emptyHistory markedCalls) (λ b. some (b .run)) ≡ some marked
+  pub commits : madeByAll tables (freshTable 2) markedCalls ≡ marked
+  pub book-run : _>>=_ (bookAfterAll tables (freshTable 2) emptyHistory markedCalls) (λ b. some (b .run)) ≡ some marked
 
 -- Demand 3 for the smallest and for the largest table.
 abbrev pub Demand3AtEnds : Type 0
-Demand3AtEnds = (calls : List Call) → Claim (freshTable 2) calls × Claim (freshTable 32) calls
+Demand3AtEnds = (calls : List Call) → Claim tables (freshTable 2) emptyHistory calls × Claim tables (freshTable 32) emptyHistory calls

@@ -1,6 +1,7 @@
 pub mod Types
-pub mod Run
 pub mod Book
+pub mod Machine
+pub mod Tables
 pub mod Demand3
 pub mod StaysWellFormed
 pub mod NothingLost

@@ -5,7 +5,7 @@ mod plans;
 mod tables;
 
 use answers::added;
-use plans::Call;
+use plans::Planned;
 use plans::next_call;
 use plans::resets;
 use rendezvous::Answer;
@@ -26,22 +26,22 @@ pub extern "C" fn meter_calls(plan: u8, n: u8, load: u8, calls: u64) -> u64 {
     while made < calls {
         sum = added(sum, answer);
         match next_call(plan, turn) {
-            Call::Offer(p) => {
+            Planned::Offer(p) => {
                 let reply = t.offer_list(p, offered(p));
                 answer = reply.answer;
                 t = reply.table;
             }
-            Call::Step(p) => {
+            Planned::Step(p) => {
                 let reply = t.step(p);
                 answer = reply.answer;
                 t = reply.table;
             }
-            Call::Collect(p) => {
+            Planned::Collect(p) => {
                 let reply = t.collect(p);
                 answer = reply.answer;
                 t = reply.table;
             }
-            Call::Runnable => {
+            Planned::Runnable => {
                 let reply = t.runnable();
                 answer = reply.answer;
                 t = reply.table;

@@ -1,5 +1,5 @@
 // What is called, in turn: plan 0 is whole meetings of processes 0 and 1, the others one call over and over.
-pub enum Call {
+pub enum Planned {
     Offer(u8),
     Step(u8),
     Collect(u8),
@@ -7,27 +7,27 @@ pub enum Call {
 }
 
 // Document 01's session: two offers, ten steps, two collections.
-fn meeting_call(turn: u8) -> Call {
+fn meeting_call(turn: u8) -> Planned {
     match turn {
-        0 => Call::Offer(0),
-        1 => Call::Offer(1),
-        2..=6 => Call::Step(0),
-        7..=10 => Call::Step(1),
-        11 => Call::Step(0),
-        12 => Call::Collect(1),
-        _ => Call::Collect(0),
+        0 => Planned::Offer(0),
+        1 => Planned::Offer(1),
+        2..=6 => Planned::Step(0),
+        7..=10 => Planned::Step(1),
+        11 => Planned::Step(0),
+        12 => Planned::Collect(1),
+        _ => Planned::Collect(0),
     }
 }
 
 // The call of a plan at this turn of fourteen. Plans 1 to 5: a step that changes the table, a step that does not, an offer, a
 // collection, the set of processes that can move.
-pub fn next_call(plan: u8, turn: u8) -> Call {
+pub fn next_call(plan: u8, turn: u8) -> Planned {
     match plan {
-        1 => Call::Step(1),
-        2 => Call::Step(0),
-        3 => Call::Offer(0),
-        4 => Call::Collect(0),
-        5 => Call::Runnable,
+        1 => Planned::Step(1),
+        2 => Planned::Step(0),
+        3 => Planned::Offer(0),
+        4 => Planned::Collect(0),
+        5 => Planned::Runnable,
         _ => meeting_call(turn),
     }
 }

@@ -9,10 +9,12 @@ use process::Process;
 use process::Signal;
 use process::TransactionId;
 use process::fresh_process;
+use rendezvous::MOST_PROCESSES;
 use rendezvous::ProcessTable;
+use rendezvous::fresh_head;
 
 // What process 0 offers, and what 1 offers: one guard each, on the other.
-fn guard_of(p: u8) -> Guard {
+fn guard_by(p: u8) -> Guard {
     if p == 0 {
         Guard {
             enabled: true,
@@ -31,7 +33,7 @@ fn guard_of(p: u8) -> Guard {
 pub fn offered(p: u8) -> GuardList {
     let blank = blank_guard();
     let mut guards = [blank; 8];
-    guards[0] = guard_of(p);
+    guards[0] = guard_by(p);
     GuardList {
         count: 1,
         guards: guards,
@@ -58,7 +60,7 @@ fn placed(p: u8, place: Place) -> Process {
 
 // A process that waits to receive from process 0, with `load` guards in its own list and in its posted one.
 fn waiter(load: u8) -> Process {
-    let guard = guard_of(1);
+    let guard = guard_by(1);
     let guards = [guard; 8];
     let altlist = [guard; 8];
     Process {
@@ -83,14 +85,17 @@ fn starter(plan: u8, p: u8) -> Process {
     }
 }
 
+// Tickets for an offer of each process are given out, so that the table has no more open offers than given tickets.
 pub fn start(plan: u8, n: u8, load: u8) -> ProcessTable {
     let other = waiter(load);
-    let mut processes = [other; 32];
+    let mut processes = [other; MOST_PROCESSES as usize];
     processes[0] = starter(plan, 0);
     processes[1] = starter(plan, 1);
+    let mut head = fresh_head(n);
+    let next = TransactionId(MOST_PROCESSES as u32);
+    head.next = next;
     ProcessTable {
-        n: n,
-        next: TransactionId(2),
+        head: head,
         processes: processes,
     }
 }

@@ -1,4 +1,5 @@
 pub mod Differs
-pub mod Kept
+pub mod OnlyTold
+pub mod PlaceCases
 pub mod Movers
 pub mod RuleLaws

@@ -4,8 +4,8 @@ use mathlib.Core.Path.{_≡_, refl, sym, ap, ap₂, _∙_}
 use mathlib.Core.Bool.{Bool, true, false}
 use mathlib.Core.List.{List}
 use native.Mathlib.Numerals.{add-one}
-use Rattle.alternative.specs.Guards.{firstMatch}
-use Rattle.process.specs.Types.{Guard, Found, At, Missing, Signal, Place, Committed, Process}
+use Rattle.alternative.specs.Guards.{keptMatch}
+use Rattle.process.specs.Types.{Guard, Found, Signal, Place, Process}
 use Rattle.process.specs.Rules.{Both, atPlace, withAccepting, scanFrom, try, absorb, ruleAt, rule}
 
 pub rule-at : (p : ℕ) (x : Process) (q : ℕ) (y : Process) (place : Place) → x .place ≡ place → rule p x q y ≡ ruleAt p x q y place
@@ -20,8 +20,8 @@ module _ (x : Process) (i : ℕ) (y : Process) where
   after = rw add-one
 
   shut : (found : Found) → try x i y false found ≡ scanFrom x (i + 1)
-  shut (At j) = after
-  shut Missing = after
+  shut (Found.At j) = after
+  shut Found.Missing = after
 
   by-both : (accepting : Bool) (found f : Found) → y .accepting ≡ accepting → found ≡ f → try x i y (y .accepting) found ≡ try x i y accepting f
   by-both accepting found f = ap₂ (try x i y)
@@ -29,12 +29,12 @@ module _ (x : Process) (i : ℕ) (y : Process) where
   pub try-shut : (found : Found) → y .accepting ≡ false → try x i y (y .accepting) found ≡ scanFrom x (i + 1)
   try-shut found e = by-both false found found e refl ∙ shut found
 
-  pub try-missing : (found : Found) → y .accepting ≡ true → found ≡ Missing → try x i y (y .accepting) found ≡ scanFrom x (i + 1)
-  try-missing found e f = by-both true found Missing e f ∙ after
+  pub try-missing : (found : Found) → y .accepting ≡ true → found ≡ Found.Missing → try x i y (y .accepting) found ≡ scanFrom x (i + 1)
+  try-missing found e f = by-both true found Found.Missing e f ∙ after
 
-  pub try-found : (found : Found) (j : ℕ) → y .accepting ≡ true → found ≡ At j → try x i y (y .accepting) found ≡ Both (atPlace x (Committed i j)) (withAccepting y false)
-  try-found found j e f = by-both true found (At j) e f
+  pub try-found : (found : Found) (j : ℕ) → y .accepting ≡ true → found ≡ Found.At j → try x i y (y .accepting) found ≡ Both (atPlace x (Place.Committed i j)) (withAccepting y false)
+  try-found found j e f = by-both true found (Found.At j) e f
 
 -- a search for a guard's match, made with a copy of the guard
-pub searched : (p : ℕ) (g copy : Guard) (q : ℕ) (hs : List Guard) (result found : Found) → copy ≡ g → result ≡ firstMatch p copy q hs → result ≡ found → firstMatch p g q hs ≡ found
-searched p g copy q hs result found e f h = ap (λ (k : Guard). firstMatch p k q hs) (sym e) ∙ sym f ∙ h
+pub searched : (p : ℕ) (g copy : Guard) (q : ℕ) (hs : List Guard) (result found : Found) → copy ≡ g → result ≡ keptMatch p copy q hs → result ≡ found → keptMatch p g q hs ≡ found
+searched p g copy q hs result found e f h = ap (λ (k : Guard). keptMatch p k q hs) (sym e) ∙ sym f ∙ h

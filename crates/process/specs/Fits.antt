@@ -1,6 +1,7 @@
 -- To be believed. Document 01, "What turns a call away", refusal 7: what it asks of each record. The quoted conditions are those that fail.
 use Rattle.alternative.specs.Guards.{mostGuards}
-use Rattle.process.specs.Types.{ℕ, Bool, true, not, _&&_, List, [], _∷_, take, eqb, ltb, leb, Guard, Signal, Absent, Present, Place, Idle, Entering, Scanning, Trying, Committed, Posting, Opening, Showing, Asleep, Waiting, Met, Process}
+use Rattle.process.specs.Process.{carried}
+use Rattle.process.specs.Types.{ℕ, Bool, true, not, _&&_, List, [], _∷_, take, eqb, ltb, leb, Guard, Signal, Place, Process}
 
 -- every guard of a list passes a test
 unfoldable pub allGuards : (Guard → Bool) → List Guard → Bool
@@ -17,23 +18,13 @@ listFits n p count guards = leb count mostGuards && allGuards (partnerFits n p) 
 
 -- not "the index in .. a signal .. has no guard in that party's own list", a list of count guards
 abbrev pub signalFits : ℕ → Signal → Bool
-signalFits count Absent = true
-signalFits count (Present j m) = ltb j count
+signalFits count Signal.Absent = true
+signalFits count (Signal.Present j m) = ltb j count
 
 -- not "the index in A, T, C, .. or an outcome has no guard in that party's own list (not the posted one), or a kept index none in the partner's posted list", a list
 -- of partnerPosted guards
 abbrev pub placeFits : ℕ → ℕ → Place → Bool
-placeFits count partnerPosted (Scanning i) = ltb i count
-placeFits count partnerPosted (Trying i) = ltb i count
-placeFits count partnerPosted (Committed i j) = ltb i count && ltb j partnerPosted
-placeFits count partnerPosted (Met i m) = ltb i count
-placeFits count partnerPosted Idle = true
-placeFits count partnerPosted Entering = true
-placeFits count partnerPosted Posting = true
-placeFits count partnerPosted Opening = true
-placeFits count partnerPosted Showing = true
-placeFits count partnerPosted Asleep = true
-placeFits count partnerPosted Waiting = true
+placeFits count partnerPosted place = carried true (λ i. ltb i count) (λ i j. ltb i count && ltb j partnerPosted) (λ i m. ltb i count) place
 
 -- process p with record x; the process that its guard names at C has posted partnerPosted guards
 unfoldable pub processFits : ℕ → ℕ → Process → ℕ → Bool

@@ -3,5 +3,5 @@ pub mod Process
 pub mod Places
 pub mod Rules
 pub mod Fits
-pub mod Form
+pub mod InCode
 pub mod Private

@@ -2,7 +2,7 @@
 use mathlib.Core.List.{map}
 use Rattle.alternative.specs.Types.{Char, _≡_}
 use Rattle.alternative.specs.declared.Message.{Message}
-use Rattle.process.specs.Types.{ℕ, code, Bool, true, false, List, [], _∷_, Option, some, none, Place, Idle, Entering, Scanning, Trying, Committed, Posting, Opening, Showing, Asleep, Waiting, Met, State, Running, Alt, Sleeping}
+use Rattle.process.specs.Types.{ℕ, code, Bool, true, false, List, [], _∷_, Option, some, none, Place, State}
 use Rattle.process.specs.Process.{letterOf, stateOf, indexOf, openAt}
 
 -- what is told of a place; open offers by the wake count, 0 and 1
@@ -21,21 +21,21 @@ line letter index word openAt0 openAt1 = record { letter = code letter; index = 
 
 -- the eleven places, in the order of document 01's table; what A, T, C and M carry is any
 abbrev places : ℕ → ℕ → Message → List Place
-places i j m = Idle ∷ Entering ∷ Met i m ∷ Scanning i ∷ Trying i ∷ Committed i j ∷ Posting ∷ Opening ∷ Showing ∷ Asleep ∷ Waiting ∷ []
+places i j m = Place.Idle ∷ Place.Entering ∷ Place.Met i m ∷ Place.Scanning i ∷ Place.Trying i ∷ Place.Committed i j ∷ Place.Posting ∷ Place.Opening ∷ Place.Showing ∷ Place.Asleep ∷ Place.Waiting ∷ []
 
 abbrev pub PlaceTable : Type 0
 PlaceTable =
     (i j : ℕ) (m : Message)
     → map told (places i j m)
-    ≡ line "I" none Running false false
-    ∷ line "E" none Running true true
-    ∷ line "M" none Running false false
-    ∷ line "A" (some i) Alt true true
-    ∷ line "T" (some i) Alt true true
-    ∷ line "C" (some i) Alt false false
-    ∷ line "P" none Alt true true
-    ∷ line "O" none Alt true true
-    ∷ line "H" none Alt true false
-    ∷ line "S" none Sleeping true true
+    ≡ line "I" none State.Running false false
+    ∷ line "E" none State.Running true true
+    ∷ line "M" none State.Running false false
+    ∷ line "A" (some i) State.Alt true true
+    ∷ line "T" (some i) State.Alt true true
+    ∷ line "C" (some i) State.Alt false false
+    ∷ line "P" none State.Alt true true
+    ∷ line "O" none State.Alt true true
+    ∷ line "H" none State.Alt true false
+    ∷ line "S" none State.Sleeping true true
     ∷ line "W" none State.Waiting true false
     ∷ []

@@ -1,21 +1,22 @@
 -- To be believed. Document 01, "The desk and its tasks": the words, a record and its lists, a fresh record; and from "Calls": an open offer.
 use Prim.Native.String.{[] as end, _∷_ as _then_}
 use Rattle.alternative.specs.Guards.{mostGuards, blank}
-use Rattle.process.specs.Types.{ℕ, code, String, Bool, false, _&&_, _||_, eqb, List, [], Option, some, none, getD, take, replicate, Guard, Absent, Place, Idle, Entering, Scanning, Trying, Committed, Posting, Opening, Showing, Asleep, Waiting, Met, State, Running, Alt, Sleeping, Process}
+use Rattle.process.specs.Types.{ℕ, code, String, Bool, false, _&&_, _||_, eqb, List, [], Option, some, none, getD, take, replicate, Message, Guard}
+use Rattle.process.specs.Types.{Signal, Place, State, Process}
 
 -- "I idle, E entering, M met", "A scanning, T trying, C committed, P posting, O opening, H showing", "S asleep", "W waiting"
 abbrev pub letterOf : Place → ℕ
-letterOf Idle = code "I"
-letterOf Entering = code "E"
-letterOf (Met i m) = code "M"
-letterOf (Scanning i) = code "A"
-letterOf (Trying i) = code "T"
-letterOf (Committed i j) = code "C"
-letterOf Posting = code "P"
-letterOf Opening = code "O"
-letterOf Showing = code "H"
-letterOf Asleep = code "S"
-letterOf Waiting = code "W"
+letterOf Place.Idle = code "I"
+letterOf Place.Entering = code "E"
+letterOf (Place.Met i m) = code "M"
+letterOf (Place.Scanning i) = code "A"
+letterOf (Place.Trying i) = code "T"
+letterOf (Place.Committed i j) = code "C"
+letterOf Place.Posting = code "P"
+letterOf Place.Opening = code "O"
+letterOf Place.Showing = code "H"
+letterOf Place.Asleep = code "S"
+letterOf Place.Waiting = code "W"
 
 -- at one of the places that have these letters
 abbrev isOneOf : String → ℕ → Bool
@@ -30,31 +31,42 @@ isIdle place = eqb (letterOf place) (code "I")
 
 -- "Others read a word that follows from the place"
 abbrev pub stateOf : Place → State
-stateOf Idle = Running
-stateOf Entering = Running
-stateOf (Met i m) = Running
-stateOf (Scanning i) = Alt
-stateOf (Trying i) = Alt
-stateOf (Committed i j) = Alt
-stateOf Posting = Alt
-stateOf Opening = Alt
-stateOf Showing = Alt
-stateOf Asleep = Sleeping
-stateOf Waiting = State.Waiting
+stateOf Place.Idle = State.Running
+stateOf Place.Entering = State.Running
+stateOf (Place.Met i m) = State.Running
+stateOf (Place.Scanning i) = State.Alt
+stateOf (Place.Trying i) = State.Alt
+stateOf (Place.Committed i j) = State.Alt
+stateOf Place.Posting = State.Alt
+stateOf Place.Opening = State.Alt
+stateOf Place.Showing = State.Alt
+stateOf Place.Asleep = State.Sleeping
+stateOf Place.Waiting = State.Waiting
+
+-- What a place carries: at A and T the index of a guard, at C that and the kept index, at M "an outcome (a guard index with a message)", at the others nothing.
+abbrev pub carried {ℓ} : {A : Type ℓ} → A → (ℕ → A) → (ℕ → ℕ → A) → (ℕ → Message → A) → Place → A
+carried other index kept outcome (Place.Scanning i) = index i
+carried other index kept outcome (Place.Trying i) = index i
+carried other index kept outcome (Place.Committed i j) = kept i j
+carried other index kept outcome (Place.Met i m) = outcome i m
+carried other index kept outcome Place.Idle = other
+carried other index kept outcome Place.Entering = other
+carried other index kept outcome Place.Posting = other
+carried other index kept outcome Place.Opening = other
+carried other index kept outcome Place.Showing = other
+carried other index kept outcome Place.Asleep = other
+carried other index kept outcome Place.Waiting = other
 
 -- "A, T and C carry the index of a guard."
 abbrev pub indexOf : Place → Option ℕ
-indexOf (Scanning i) = some i
-indexOf (Trying i) = some i
-indexOf (Committed i j) = some i
-indexOf Idle = none
-indexOf Entering = none
-indexOf Posting = none
-indexOf Opening = none
-indexOf Showing = none
-indexOf Asleep = none
-indexOf Waiting = none
-indexOf (Met i m) = none
+indexOf place = carried none some (λ i j. some i) (λ i m. none) place
+
+-- C alone, and M alone
+abbrev pub ifCommitted {ℓ} : {A : Type ℓ} → A → (ℕ → ℕ → A) → Place → A
+ifCommitted other committed place = carried other (λ i. other) committed (λ i m. other) place
+
+abbrev pub ifMet {ℓ} : {A : Type ℓ} → A → (ℕ → Message → A) → Place → A
+ifMet other met place = carried other (λ i. other) (λ i j. other) met place
 
 -- a process's own list and its posted list, and guard i of each
 abbrev pub ownList : Process → List Guard
@@ -71,11 +83,11 @@ postedGuard x i = getD (postedList x) i blank
 
 -- what stands outside a table: a process at I with empty lists, which no call acts on
 abbrev pub nobody : Process
-nobody = record { place = Idle; signal = Absent; transaction = record { 0 = 0 }; accepting = false; count = 0; altcount = 0; guards = []; altlist = [] }
+nobody = record { place = Place.Idle; signal = Signal.Absent; transaction = record { 0 = 0 }; accepting = false; count = 0; altcount = 0; guards = []; altlist = [] }
 
 -- "A fresh desk has every party at I, own and posted lists empty, wake counts 1, no signals, every party's ticket .. 0."
 abbrev pub freshProcess : Process
-freshProcess = let blanks = replicate mostGuards blank in record { place = Idle; signal = Absent; transaction = record { 0 = 0 }; accepting = false; count = 0; altcount = 0; guards = blanks; altlist = blanks }
+freshProcess = let blanks = replicate mostGuards blank in record { place = Place.Idle; signal = Signal.Absent; transaction = record { 0 = 0 }; accepting = false; count = 0; altcount = 0; guards = blanks; altlist = blanks }
 
 -- "On any desk, reached or damaged, the open offers are those of parties at E, A, T, P, O or S, or at H or W with wake count 0."
 abbrev pub openAt : Place → Bool → Bool

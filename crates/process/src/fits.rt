@@ -4,8 +4,6 @@ use crate::Process;
 use crate::Signal;
 use alternative::Guard;
 ghost use mathlib.Core.Path.{_≡_};
-ghost use mathlib.Core.Bool.{cond};
-ghost use lib.Dec.{ltb};
 ghost use Rattle.process.specs.Fits.{partnerFits, listFits, signalFits, placeFits, processFits};
 
 // Whether a guard of process p, in a table of n, names another process of it.
@@ -69,11 +67,4 @@ pub fn process_fits(n: u8, p: u8, x: Process, altcount: u8) -> bool
     list_fits(n, p, x.count, guards)
         & (list_fits(n, p, x.altcount, altlist)
             & (signal_fits(x.count, signal) & place_fits(x.count, altcount, place)))
-}
-
-// How many guards process q has posted, where `posted` is the count of the record at q % 32: none outside the table.
-pub fn posted_by(q: u8, posted: u8) -> u8
-    ensures { λ r. ⌜ r ≡ cond (ltb q 32) posted 0 ⌝ }
-{
-    if q < 32 { posted } else { 0 }
 }

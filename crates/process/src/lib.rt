@@ -10,7 +10,6 @@ mod record;
 mod rules;
 
 pub use fits::partner_fits;
-pub use fits::posted_by;
 pub use fits::process_fits;
 pub use moving::would_change;
 pub use record::fresh_process;

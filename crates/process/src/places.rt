@@ -5,7 +5,7 @@ use crate::State;
 use alternative::Found;
 ghost use mathlib.Core.Path.{_≡_};
 ghost use Rattle.process.specs.Process.{letterOf, stateOf, indexOf, isIdle};
-ghost use Rattle.process.specs.Form.{asFound, outcomeOf};
+ghost use Rattle.process.specs.InCode.{asFound, outcomeOf};
 
 impl Place {
     pub fn state(self) -> State
@@ -70,7 +70,7 @@ impl Place {
         self.letter() == b'I'
     }
 
-    // The outcome at M, in the form of a signal: a guard index with a message, or absent.
+    // The outcome at M, as a signal has it: a guard index with a message, or absent.
     pub fn outcome(self) -> Signal
         ensures { λ r. ⌜ r ≡ outcomeOf self ⌝ }
     {

@@ -10,7 +10,7 @@ ghost use lib.ListN.{take, getD};
 ghost use Rattle.alternative.specs.Guards.{blank};
 ghost use Rattle.process.specs.Process.{freshProcess};
 ghost use Rattle.process.specs.Rules.{changed, atPlace, partnerOf};
-ghost use Rattle.process.specs.Form.{committedAt};
+ghost use Rattle.process.specs.InCode.{committedAt};
 
 // Guard i of a list of `count` guards, or a blank one past its end.
 pub fn guard_at(count: u8, guards: [Guard; 8], i: u8) -> Guard

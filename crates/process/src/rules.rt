@@ -6,17 +6,17 @@ use crate::Signal;
 use crate::State;
 use crate::record::guard_at;
 use alternative::Found;
-use alternative::first_match;
+use alternative::kept_match;
 use alternative::next_enabled;
 use alternative::received;
 use alternative::sent;
 ghost use mathlib.Core.Path.{_≡_};
 ghost use mathlib.Core.Bool.{true};
 ghost use lib.Dec.{ltb};
-ghost use Rattle.alternative.specs.Guards.{firstMatch};
+ghost use Rattle.alternative.specs.Guards.{keptMatch};
 ghost use Rattle.process.specs.Process.{stateOf, postedList, ownGuard};
 ghost use Rattle.process.specs.Rules.{Neither, Own, atPlace, withAccepting, withOwnPosted, scanFrom, scan, try, handOver, absorb, rule};
-ghost use Rattle.process.specs.Form.{changeOf};
+ghost use Rattle.process.specs.InCode.{changeOf};
 
 // Nothing changes.
 fn stay(x: Process, y: Process) -> Change
@@ -78,14 +78,14 @@ fn scan(x: Process, y: Process, i: u8) -> Change
 
 // Rules 7 and 8. Process p is at T at guard i, which names q.
 fn try_guard(p: u8, x: Process, q: u8, y: Process, i: u8) -> Change
-    ensures { λ r. ⌜ r ≡ changeOf x y (try x i y (y .accepting) (firstMatch p (ownGuard x i) q (postedList y))) ⌝ }
+    ensures { λ r. ⌜ r ≡ changeOf x y (try x i y (y .accepting) (keptMatch p (ownGuard x i) q (postedList y))) ⌝ }
 {
     if !y.accepting {
         return scan_from(x, y, i as usize + 1);
     }
     let guards = x.guards;
     let altlist = y.altlist;
-    match first_match(
+    match kept_match(
         p,
         guard_at(x.count, guards, i),
         q,

@@ -36,24 +36,24 @@ unfolding effectOn rule
 nobody-stays t p h = rw (List·getD-eq-default (t .processes) nobody {n = p} h)
 
 module _ (t : ProcessTable) (formed : wellFormed t ≡ true) (p : ℕ) where
-  taken : p < t .n → step t p ≡ stepped t p
+  taken : p < t .head .n → step t p ≡ stepped t p
   unfolding step processVerdict
-  taken below = rw (formed, lt-ltb p (t .n) below)
+  taken below = rw (formed, lt-ltb p (t .head .n) below)
 
   -- a step of no process is refused
-  pub step-outside : t .n ≤ p → step t p .table ≡ t
+  pub step-outside : t .head .n ≤ p → step t p .table ≡ t
   unfolding step processVerdict
-  step-outside above = go (ltb p (t .n)) refl
+  step-outside above = go (ltb p (t .head .n)) refl
     where
-      go : (b : Bool) → ltb p (t .n) ≡ b → step t p .table ≡ t
-      go true e = absurd (omega (arith, ltb-true p (t .n) e))
+      go : (b : Bool) → ltb p (t .head .n) ≡ b → step t p .table ≡ t
+      go true e = absurd (omega (arith, ltb-true p (t .head .n) e))
       go false e = rw (formed, e)
 
-  pub step-same : p < t .n → changes (effectOn t p) ≡ false → step t p .table ≡ t
+  pub step-same : p < t .head .n → changes (effectOn t p) ≡ false → step t p .table ≡ t
   unfolding stepped
   step-same below c = rw (taken below) (unchanged t p _ (effectOn t p) c)
 
-  pub step-other : p < t .n → changes (effectOn t p) ≡ true → step t p .table ≡ t → ⊥
+  pub step-other : p < t .head .n → changes (effectOn t p) ≡ true → step t p .table ≡ t → ⊥
   unfolding stepped effectOn
   step-other below c = rw (taken below) (changed t p _ (effectOn t p) (there (ltb p (length (t .processes))) refl) (rule-differs p (process t p) _ _) c)
     where
@@ -62,7 +62,7 @@ module _ (t : ProcessTable) (formed : wellFormed t ≡ true) (p : ℕ) where
       there false e = absurd (false≢true (sym (nobody-stays t p (ltb-false p (length (t .processes)) e)) ∙ c))
 
 -- at rest no rule changes anything
-pub rest-still : (t : ProcessTable) → wellFormed t ≡ true → Quiescent t → (p : ℕ) → p < t .n → changes (effectOn t p) ≡ false
+pub rest-still : (t : ProcessTable) → wellFormed t ≡ true → Quiescent t → (p : ℕ) → p < t .head .n → changes (effectOn t p) ≡ false
 rest-still t formed rest p below = go (changes (effectOn t p)) refl
   where
     go : (b : Bool) → changes (effectOn t p) ≡ b → b ≡ false

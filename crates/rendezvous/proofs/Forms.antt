@@ -1,22 +1,28 @@
--- Laws of a well-formed table.
+-- Laws of a well-formed table, and of the form test in its three parts.
 use Prim.Native.Nat.{ℕ, zero, suc, _+_, _≤_, _<_, _%_}
 use mathlib.Core.Path.{_≡_, refl, sym, ap, subst, _∙_}
 use mathlib.Core.Logic.{⊎-elim}
-use mathlib.Core.Bool.{Bool, true, false, _&&_, cond}
+use mathlib.Core.Bool.{Bool, true, false, _&&_, cond, and-true}
 use native.Mathlib.Nat.{mod-eq-of-lt, not-suc-le-zero, le-of-suc-le-suc, eq-or-lt-of-le}
 use native.Mathlib.Numerals.{add-one}
 use native.Mathlib.Omega.{arith}
 use lib.ListN.{length, List·getD-eq-default}
 use lib.Dec.{ltb, leb}
 use borrow.Author.Tests.{ltb-true, ltb-false, leb-true}
-use Rattle.rendezvous.specs.declared.ProcessTable.{ProcessTable}
+use Rattle.rendezvous.specs.declared.{Form.Form, ProcessTable.ProcessTable}
 use Rattle.rendezvous.specs.Table.{mostProcesses, process}
 use Rattle.process.specs.Process.{nobody}
+use Rattle.process.specs.Rules.{partnerOf}
 use Rattle.process.specs.Fits.{processFits}
-use Rattle.process.specs.Form.{committedAt}
-use Rattle.process.proofs.Kept.{fits-committed}
+use Rattle.process.specs.InCode.{committedAt}
+use Rattle.process.proofs.OnlyTold.{fits-committed}
 use Rattle.alternative.proofs.Tests.{and-parts}
 use Rattle.rendezvous.specs.WellFormed.{allBelow, countFits, fitsAt, wellFormed}
+use Rattle.rendezvous.specs.Forms.{postedBy, formStart, formMore, formEnd, formBelow, FormsAreWellFormed}
+
+and-assoc : (a b c : Bool) → ((a && b) && c) ≡ (a && (b && c))
+and-assoc true b c = refl
+and-assoc false b c = refl
 
 all-at : (test : ℕ → Bool) (k n : ℕ) → k < n → allBelow test n ≡ true → test k ≡ true
 unfolding allBelow
@@ -29,51 +35,63 @@ pub count-most : (n : ℕ) → countFits n ≡ true → n ≤ mostProcesses
 unfolding countFits
 count-most n e = leb-true n mostProcesses (and-parts (leb 2 n) (leb n mostProcesses) e .1)
 
-pub formed-most : (t : ProcessTable) → wellFormed t ≡ true → t .n ≤ mostProcesses
+pub formed-most : (t : ProcessTable) → wellFormed t ≡ true → t .head .n ≤ mostProcesses
 unfolding wellFormed
-formed-most t e = count-most (t .n) (and-parts (countFits (t .n)) (allBelow (fitsAt t) (t .n)) e .0)
+formed-most t e = count-most (t .head .n) (and-parts (countFits (t .head .n)) (allBelow (fitsAt t) (t .head .n)) e .0)
 
-pub formed-fits : (t : ProcessTable) (p : ℕ) → wellFormed t ≡ true → p < t .n → fitsAt t p ≡ true
+pub formed-fits : (t : ProcessTable) (p : ℕ) → wellFormed t ≡ true → p < t .head .n → fitsAt t p ≡ true
 unfolding wellFormed
-formed-fits t p e h = all-at (fitsAt t) p (t .n) h (and-parts (countFits (t .n)) (allBelow (fitsAt t) (t .n)) e .1)
+formed-fits t p e h = all-at (fitsAt t) p (t .head .n) h (and-parts (countFits (t .head .n)) (allBelow (fitsAt t) (t .head .n)) e .1)
 
--- the test of process p, from the process that it is committed to and the number of guards that one has posted
-fits-by-parts : (t : ProcessTable) (p q altcount : ℕ) (r : Bool) → q ≡ committedAt (process t p) (process t p .place) → altcount ≡ process t q .altcount
-    → r ≡ processFits (t .n) p (process t p) altcount → fitsAt t p ≡ r
-unfolding fitsAt
-fits-by-parts t p q altcount r d e f = rw (f, e, d) (sym (fits-committed (t .n) p (process t p) (λ j. process t j .altcount)))
-
--- how many guards the partner has posted, as the code reads it
-posted-read : (t : ProcessTable) (q : ℕ) → length (t .processes) ≡ 32 → cond (ltb q 32) (process t (q % 32) .altcount) 0 ≡ process t q .altcount
-posted-read t q long = go (ltb q 32) refl
+-- how many guards process q has posted, as the code reads it
+posted-read : (t : ProcessTable) (q : ℕ) → length (t .processes) ≡ mostProcesses → postedBy q (process t (q % mostProcesses) .altcount) ≡ process t q .altcount
+posted-read t q long = go (ltb q mostProcesses) refl
   where
-    go : (b : Bool) → ltb q 32 ≡ b → cond b (process t (q % 32) .altcount) 0 ≡ process t q .altcount
-    go true e = let h : q < 32 = ltb-true q 32 e in rw (mod-eq-of-lt h)
-    go false e = let h : length (t .processes) ≤ q = omega (arith, ltb-false q 32 e) in rw (List·getD-eq-default (t .processes) nobody h)
+    go : (b : Bool) → ltb q mostProcesses ≡ b → cond b (process t (q % mostProcesses) .altcount) 0 ≡ process t q .altcount
+    go true e = let h : q < mostProcesses = ltb-true q mostProcesses e in rw (mod-eq-of-lt h)
+    go false e = let h : length (t .processes) ≤ q = omega (arith, ltb-false q mostProcesses e) in rw (List·getD-eq-default (t .processes) nobody h)
 
--- One turn of the loop that tests a table: `formed` says that n is right and the processes below k fit. Where n is wrong, what is read does not count.
-pub formed-more : (t : ProcessTable) (k : ℕ) (formed : Bool) (q altcount : ℕ) (fits : Bool) → length (t .processes) ≡ 32 → k < t .n
-    → formed ≡ (countFits (t .n) && allBelow (fitsAt t) k)
-    → q ≡ committedAt (process t (k % 32)) (process t (k % 32) .place) → altcount ≡ cond (ltb q 32) (process t (q % 32) .altcount) 0 → fits ≡ processFits (t .n) k (process t (k % 32)) altcount
-    → (formed && fits) ≡ (countFits (t .n) && allBelow (fitsAt t) (k + 1))
-unfolding allBelow
-formed-more t k formed q altcount fits long below e f g h = rw (e, add-one) (go (countFits (t .n)) refl)
+-- What a loop that tests a table has found before process k. Where the number of processes does not fit, what else is read does not count.
+pub record FormAt (t : ProcessTable) (k : ℕ) (form : Form) : Type 0 where
+  so-far : countFits (t .head .n) ≡ true → form ≡ formBelow t k
+  unfit : countFits (t .head .n) ≡ false → form .fits ≡ false
+
+pub form-start : (t : ProcessTable) (form : Form) → form ≡ formStart (t .head) → FormAt t 0 form
+unfolding formBelow
+form-start t form e = record { so-far = λ _. e; unfit = λ c. rw e c }
+
+-- one turn of the loop, from what it reads: q is the process that k is committed to
+pub form-more : (t : ProcessTable) (k : ℕ) (form form′ : Form) (q : ℕ) → length (t .processes) ≡ mostProcesses → k < t .head .n → FormAt t k form
+    → q ≡ committedAt (process t (k % mostProcesses)) (process t (k % mostProcesses) .place)
+    → form′ ≡ formMore form (t .head) k (process t (k % mostProcesses)) (postedBy q (process t (q % mostProcesses) .altcount)) → FormAt t (k + 1) form′
+unfolding formBelow
+form-more t k form form′ q long below f named e = record { so-far = fits; unfit = λ c. rw (e, f .unfit c) refl }
   where
-    go : (b : Bool) → countFits (t .n) ≡ b → ((b && allBelow (fitsAt t) k) && fits) ≡ (b && (allBelow (fitsAt t) k && fitsAt t k))
-    go false c = refl
-    go true c =
-        let i : k < 32 = omega (arith, count-most (t .n) c) in
-        let j : k % 32 ≡ k = mod-eq-of-lt i in
-        rw (fits-by-parts t k q altcount fits (rw j at f) (g ∙ posted-read t q long) (rw j at h))
+    fits : countFits (t .head .n) ≡ true → form′ ≡ formBelow t (k + 1)
+    fits c =
+        let i : k < mostProcesses = omega (arith, count-most (t .head .n) c) in
+        let j : k % mostProcesses ≡ k = mod-eq-of-lt i in
+        let x = process t k in
+        let at-q : q ≡ committedAt x (x .place) = rw j at named in
+        let tested : form′ ≡ formMore form (t .head) k x (postedBy q (process t (q % mostProcesses) .altcount)) = rw j at e in
+        let partner : processFits (t .head .n) k x (process t q .altcount) ≡ processFits (t .head .n) k x (process t (partnerOf x) .altcount) =
+        rw at-q (fits-committed (t .head .n) k x (λ j. process t j .altcount)) in
+        tested ∙ rw (f .so-far c, add-one, posted-read t q long, partner) refl
 
-pub formed-start : (n : ℕ) (test : ℕ → Bool) (b : Bool) → b ≡ countFits n → b ≡ (countFits n && allBelow test 0)
-unfolding allBelow
-formed-start n test b e = e ∙ sym (and-true (countFits n))
-  where
-    and-true : (a : Bool) → (a && true) ≡ a
-    and-true true = refl
-    and-true false = refl
+-- the processes below k fit, and so does the head
+below-fits : (t : ProcessTable) (k : ℕ) → formBelow t k .fits ≡ (countFits (t .head .n) && allBelow (fitsAt t) k)
+unfolding formBelow allBelow fitsAt
+below-fits t zero = sym (and-true (countFits (t .head .n)))
+below-fits t (suc k) = rw (below-fits t k) (and-assoc (countFits (t .head .n)) (allBelow (fitsAt t) k) _)
 
-pub formed-end : (t : ProcessTable) (k : ℕ) (formed : Bool) → k ≡ t .n → formed ≡ (countFits (t .n) && allBelow (fitsAt t) k) → formed ≡ wellFormed t
+pub forms-are-well-formed : FormsAreWellFormed
 unfolding wellFormed
-formed-end t k formed e f = f ∙ ap (λ (m : ℕ). countFits (t .n) && allBelow (fitsAt t) m) e
+forms-are-well-formed t = below-fits t (t .head .n)
+
+pub form-end : (t : ProcessTable) (k : ℕ) (form : Form) (formed : Bool) → k ≡ t .head .n → FormAt t k form → formed ≡ formEnd form (t .head) → formed ≡ wellFormed t
+unfolding wellFormed
+form-end t k form formed at f e = go (countFits (t .head .n)) refl
+  where
+    go : (b : Bool) → countFits (t .head .n) ≡ b → formed ≡ wellFormed t
+    go true c = e ∙ rw (f .so-far c, at) (forms-are-well-formed t)
+    go false c = e ∙ f .unfit c ∙ rw c refl

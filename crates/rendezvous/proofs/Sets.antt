@@ -3,14 +3,16 @@ use Prim.Native.Nat.{ℕ, suc, zero, _+_, _*_, _^_, _-_, _/_, _%_, _≤_, _<_}
 use mathlib.Core.Path.{_≡_, refl, ap, _∙_}
 use mathlib.Core.Bool.{Bool, true, false, cond}
 use mathlib.Core.Logic.{⊎-elim}
-use native.Mathlib.Nat.{two-pow-succ, one-le-pow, pow-le-pow-right, pow-zero, pow-suc, add-zero, add-suc, mul-one, mul-assoc, add-mul-div-left, add-div-right, div-eq-of-lt, eq-or-lt-of-le, le-of-suc-le-suc, not-suc-le-zero}
+use native.Mathlib.Nat.{two-pow-succ, one-le-pow, pow-le-pow-right, pow-zero, pow-suc, add-zero, add-suc, mul-one, zero-mul, mul-assoc, mul-right-comm}
+use native.Mathlib.Nat.{add-mul, mul-le-mul-left, add-mul-div-left, add-div-right, div-eq-of-lt, eq-or-lt-of-le, le-of-suc-le-suc, not-suc-le-zero}
 use native.Mathlib.Numerals.{add-one}
 use native.Mathlib.Omega.{arith}
 use Rattle.process.specs.Rules.{changes}
-use Rattle.rendezvous.specs.Types.{ProcessTable, NotWellFormed, Runnable, Reply}
+use Rattle.rendezvous.specs.Types.{ProcessTable, Refusal, Answer, Reply}
 use Rattle.rendezvous.specs.WellFormed.{wellFormed}
 use Rattle.rendezvous.specs.Refusals.{tableVerdict}
-use Rattle.rendezvous.specs.Calls.{refused, effectOn, setBelow, runnableSet, runnable}
+use Rattle.rendezvous.specs.Calls.{refused, effectOn}
+use Rattle.rendezvous.specs.Movers.{setBelow, runnableSet, runnable}
 
 pub set-below : (member : ℕ → Bool) (n : ℕ) → setBelow member n < 2 ^ n
 unfolding setBelow
@@ -20,18 +22,6 @@ set-below member (suc n) = go (member n) (set-below member n)
     go : (b : Bool) → setBelow member n < 2 ^ n → setBelow member n + cond b (2 ^ n) 0 < 2 ^ suc n
     go true h = omega (arith, two-pow-succ n)
     go false h = omega (arith, two-pow-succ n)
-
--- one turn of a loop that adds the next bit, 2 ^ n, where n is a member
-pub bit-more : (n bit : ℕ) → bit ≡ 2 ^ n → bit * 2 ≡ 2 ^ (n + 1)
-bit-more n bit e = rw (e, add-one, pow-suc)
-
-pub set-with : (member : ℕ → Bool) (n set bit : ℕ) → member n ≡ true → set ≡ setBelow member n → bit ≡ 2 ^ n → set + bit ≡ setBelow member (n + 1)
-unfolding setBelow
-set-with member n set bit e f g = rw (add-one, e, f, g)
-
-pub set-without : (member : ℕ → Bool) (n set : ℕ) → member n ≡ false → set ≡ setBelow member n → set ≡ setBelow member (n + 1)
-unfolding setBelow
-set-without member n set e f = rw (add-one, e) (omega (arith, f))
 
 -- the bits of a set: bit p of a number is its quotient by 2 ^ p, modulo 2
 pow-add : (p d : ℕ) → 2 ^ (p + d) ≡ 2 ^ p * 2 ^ d
@@ -75,18 +65,45 @@ unfolding setBelow
 none-below member zero h = refl
 none-below member (suc n) h = rw (none-below member n (λ p l. h p (omega arith)), h n (omega arith))
 
--- a set of at most 32 members, and a bit on the way there, fit
-pub bit-fits : (p : ℕ) → p ≤ 32 → 2 ^ p ≤ 4294967296
-bit-fits p h = pow-le-pow-right (omega arith) h
+pub bit-most : (b : Bool) → cond b 1 0 ≤ 1
+bit-most true = omega arith
+bit-most false = omega arith
 
-pub runnable-refused : (t : ProcessTable) → wellFormed t ≡ false → refused NotWellFormed t ≡ runnable t
+-- A set that is put together from its last bit down: what there is of it stands above the bits below p.
+abbrev pub Above : (ℕ → Bool) → ℕ → ℕ → ℕ → Type 0
+Above member n p set = set * 2 ^ p + setBelow member p ≡ setBelow member n
+
+module _ (member : ℕ → Bool) (n : ℕ) where
+  pub above-start : Above member n n 0
+  above-start = omega (arith, zero-mul (2 ^ n))
+
+  pub above-more : (p q set one : ℕ) (b : Bool) → q ≡ p + 1 → member p ≡ b → one ≡ cond b 1 0 → Above member n q set → Above member n p (set * 2 + one)
+  unfolding setBelow
+  above-more p q set one b z e f a =
+      let last : set * 2 ^ suc p + (setBelow member p + cond (member p) (2 ^ p) 0) ≡ setBelow member n = rw (z, add-one) at a in
+      rw f (go b (rw (e, pow-suc) at last))
+    where
+      go : (b : Bool) → set * (2 ^ p * 2) + (setBelow member p + cond b (2 ^ p) 0) ≡ setBelow member n → (set * 2 + cond b 1 0) * 2 ^ p + setBelow member p ≡ setBelow member n
+      go true a = omega (arith, add-mul (set * 2) 1 (2 ^ p), mul-right-comm set 2 (2 ^ p), mul-assoc set (2 ^ p) 2)
+      go false a = omega (arith, mul-right-comm set 2 (2 ^ p), mul-assoc set (2 ^ p) 2)
+
+  pub above-end : (p set : ℕ) → p ≡ 0 → Above member n p set → set ≡ setBelow member n
+  unfolding setBelow
+  above-end p set e a = let all : set * 2 ^ 0 + 0 ≡ setBelow member n = rw e at a in omega arith
+
+  -- such a set fits wherever n bits do, and so does the next bit's
+  pub above-fits : (p set width : ℕ) → 0 < p → p ≤ n → n ≤ width → Above member n p set → set * 2 + 1 < 2 ^ width
+  above-fits p set width h k l a =
+      let even : 2 ^ width ≡ 2 ^ (width - 1) * 2 = rw (← pow-suc) (ap (λ (w : ℕ). 2 ^ w) (omega arith)) in
+      let two : 2 ≤ 2 ^ p = omega (arith, pow-le-pow-right {n = 2} (omega arith) {i = 1} {j = p} h) in
+      let more : set * 2 ≤ set * 2 ^ p = mul-le-mul-left set two in
+      omega (arith, more, even, set-below member n, pow-le-pow-right {n = 2} (omega arith) l)
+
+pub runnable-refused : (t : ProcessTable) → wellFormed t ≡ false → refused Refusal.NotWellFormed t ≡ runnable t
 unfolding runnable tableVerdict
 runnable-refused t e = rw e
 
-pub runnable-gives : (t : ProcessTable) (set n : ℕ) → wellFormed t ≡ true → n ≡ t .n → set ≡ setBelow (λ p. changes (effectOn t p)) n
-    → record { answer = Runnable set; table = t } ≡ runnable t
+pub runnable-gives : (t : ProcessTable) (set : ℕ) → wellFormed t ≡ true → set ≡ setBelow (λ p. changes (effectOn t p)) (t .head .n)
+    → record { answer = Answer.Runnable set; table = t } ≡ runnable t
 unfolding runnable tableVerdict runnableSet
-runnable-gives t set n e f g = rw (e, g) (ap (λ (k : ℕ). given (setBelow (λ p. changes (effectOn t p)) k)) f)
-  where
-    given : ℕ → Reply
-    given k = record { answer = Runnable k; table = t }
+runnable-gives t set e f = rw (e, f)

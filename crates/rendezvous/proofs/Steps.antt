@@ -1,4 +1,4 @@
--- Laws of a step. The code reads and writes the records at p % 32 and q % 32, which are those of p and its partner where p is a process.
+-- Laws of a step. The code reads and writes the records at p and q modulo mostProcesses, which are those of p and its partner where p is a process.
 use Prim.Native.Nat.{ℕ, _<_, _%_}
 use mathlib.Core.Path.{_≡_, sym}
 use mathlib.Core.Bool.{Bool, true}
@@ -6,9 +6,9 @@ use native.Mathlib.Nat.{mod-eq-of-lt}
 use native.Mathlib.Omega.{arith}
 use borrow.Author.Tests.{lt-ltb}
 use Rattle.process.specs.Rules.{rule, partnerOf, changes}
-use Rattle.process.proofs.Kept.{partner-below}
-use Rattle.rendezvous.specs.Types.{ProcessTable, Accepted}
-use Rattle.rendezvous.specs.Table.{process}
+use Rattle.process.proofs.OnlyTold.{partner-below}
+use Rattle.rendezvous.specs.Types.{ProcessTable, Verdict}
+use Rattle.rendezvous.specs.Table.{mostProcesses, process}
 use Rattle.rendezvous.specs.WellFormed.{fitsAt, wellFormed}
 use Rattle.rendezvous.specs.Refusals.{processVerdict}
 use Rattle.rendezvous.specs.Calls.{effectOn}
@@ -16,33 +16,33 @@ use Rattle.rendezvous.proofs.Forms.{formed-most, formed-fits}
 use Rattle.rendezvous.proofs.Verdicts.{process-passed}
 
 -- a process that fits, and its partner, below n
-partner-inside : (t : ProcessTable) (p : ℕ) → fitsAt t p ≡ true → 0 < t .n → partnerOf (process t p) < t .n
+partner-inside : (t : ProcessTable) (p : ℕ) → fitsAt t p ≡ true → 0 < t .head .n → partnerOf (process t p) < t .head .n
 unfolding fitsAt
-partner-inside t p e h = partner-below (t .n) p (process t p) _ e h
+partner-inside t p e h = partner-below (t .head .n) p (process t p) _ e h
 
 pub record Inside (t : ProcessTable) (p : ℕ) : Type 0 where
-  pub own : p % 32 ≡ p
-  pub partner : partnerOf (process t p) % 32 ≡ partnerOf (process t p)
+  pub own : p % mostProcesses ≡ p
+  pub partner : partnerOf (process t p) % mostProcesses ≡ partnerOf (process t p)
 
-pub inside : (t : ProcessTable) (p : ℕ) → processVerdict t p ≡ Accepted → Inside t p
+pub inside : (t : ProcessTable) (p : ℕ) → processVerdict t p ≡ Verdict.Accepted → Inside t p
 inside t p e =
     let a = process-passed t p e in
     let m = formed-most t (a .formed) in
-    let b : partnerOf (process t p) < t .n = partner-inside t p (formed-fits t p (a .formed) (a .below)) (omega (arith, a .below)) in
-    let c : p < 32 = omega (arith, a .below, m) in
-    let d : partnerOf (process t p) < 32 = omega (arith, b, m) in
+    let b : partnerOf (process t p) < t .head .n = partner-inside t p (formed-fits t p (a .formed) (a .below)) (omega (arith, a .below)) in
+    let c : p < mostProcesses = omega (arith, a .below, m) in
+    let d : partnerOf (process t p) < mostProcesses = omega (arith, b, m) in
     record { own = mod-eq-of-lt c; partner = mod-eq-of-lt d }
 
-pub process-accepted : (t : ProcessTable) (p : ℕ) → wellFormed t ≡ true → p < t .n → processVerdict t p ≡ Accepted
+pub process-accepted : (t : ProcessTable) (p : ℕ) → wellFormed t ≡ true → p < t .head .n → processVerdict t p ≡ Verdict.Accepted
 unfolding processVerdict
-process-accepted t p e h = rw (e, lt-ltb p (t .n) h)
+process-accepted t p e h = rw (e, lt-ltb p (t .head .n) h)
 
 -- what the code reads of process p tells whether a step changes the table
-pub member-read : (t : ProcessTable) (p q : ℕ) (r : Bool) → wellFormed t ≡ true → p < t .n → q ≡ partnerOf (process t (p % 32))
-    → ((m n : ℕ) → r ≡ changes (rule m (process t (p % 32)) n (process t (q % 32)))) → changes (effectOn t p) ≡ r
+pub member-read : (t : ProcessTable) (p q : ℕ) (r : Bool) → wellFormed t ≡ true → p < t .head .n → q ≡ partnerOf (process t (p % mostProcesses))
+    → ((m n : ℕ) → r ≡ changes (rule m (process t (p % mostProcesses)) n (process t (q % mostProcesses)))) → changes (effectOn t p) ≡ r
 unfolding effectOn
 member-read t p q r e h f g =
     let i = inside t p (process-accepted t p e h) in
     let at-q : q ≡ partnerOf (process t p) = rw (i .own) at f in
-    let read : r ≡ changes (rule p (process t (p % 32)) q (process t (q % 32))) = g p q in
+    let read : r ≡ changes (rule p (process t (p % mostProcesses)) q (process t (q % mostProcesses))) = g p q in
     sym (rw (i .own, at-q, i .partner) at read)

@@ -1,8 +1,11 @@
 pub mod Types
 pub mod Table
 pub mod WellFormed
+pub mod Forms
 pub mod Refusals
 pub mod Calls
 pub mod Acts
 pub mod Movers
 pub mod Numbers
+pub mod Run
+pub mod Commands

@@ -1,8 +1,21 @@
--- To be believed. Document 01, "Calls": what the set of movers tells of the steps and of rest, as a claim about the definitions.
+-- To be believed. Document 01, "Calls": movers; and, as a claim about the definitions, what the set tells of the steps and of rest.
 use Prim.Native.Nat.{_/_, _%_}
-use Rattle.rendezvous.specs.Types.{ℕ, _^_, _≡_, true, ProcessTable}
+use Rattle.process.specs.Rules.{changes}
+use Rattle.rendezvous.specs.Types.{ℕ, zero, suc, _+_, _^_, _≡_, Bool, true, cond, ProcessTable, Answer, Reply}
 use Rattle.rendezvous.specs.WellFormed.{wellFormed}
-use Rattle.rendezvous.specs.Calls.{step, runnableSet, Quiescent}
+use Rattle.rendezvous.specs.Refusals.{tableVerdict}
+use Rattle.rendezvous.specs.Calls.{ifAccepted, effectOn, step, Quiescent}
+
+-- "bit p is 1 exactly if p is a party and a step of p would change the desk."
+unfoldable pub setBelow : (ℕ → Bool) → ℕ → ℕ
+setBelow member zero = 0
+setBelow member (suc n) = setBelow member n + cond (member n) (2 ^ n) 0
+
+unfoldable pub runnableSet : ProcessTable → ℕ
+runnableSet t = setBelow (λ p. changes (effectOn t p)) (t .head .n)
+
+unfoldable pub runnable : ProcessTable → Reply
+runnable t = ifAccepted (tableVerdict t) t (record { answer = Answer.Runnable (runnableSet t); table = t })
 
 abbrev pub bit : ℕ → ℕ → ℕ
 bit p set = set / 2 ^ p % 2

@@ -3,7 +3,8 @@ use Rattle.alternative.specs.Guards.{mostGuards, anyGuard}
 use Rattle.alternative.specs.Exchange.{actionHoldsNan}
 use Rattle.process.specs.Process.{isIdle}
 use Rattle.process.specs.Fits.{partnerFits}
-use Rattle.rendezvous.specs.Types.{ℕ, Bool, true, false, not, _&&_, List, [], _∷_, take, ltb, leb, Guard, GuardList, TransactionId, Place, ProcessTable, Refusal, ProcessCount, NotWellFormed, NoSuchProcess, GuardCount, Partner, NotANumber, NoneEnabled, NotIdle, LastTransaction, Verdict, Accepted}
+use Rattle.rendezvous.specs.Types.{ℕ, Bool, true, false, not, _&&_, List, [], _∷_, take, ltb, leb, Guard, GuardList, TransactionId, Place, Head}
+use Rattle.rendezvous.specs.Types.{ProcessTable, Refusal, Verdict}
 use Rattle.rendezvous.specs.Table.{lastTransaction, process}
 use Rattle.rendezvous.specs.WellFormed.{countFits, wellFormed}
 
@@ -14,43 +15,43 @@ require false refusal rest = Verdict.Refused refusal
 
 -- a new table of n processes: 1
 unfoldable pub createVerdict : ℕ → Verdict
-createVerdict n = require (countFits n) ProcessCount Accepted
+createVerdict n = require (countFits n) Refusal.ProcessCount Verdict.Accepted
 
 -- movers: 7
 unfoldable pub tableVerdict : ProcessTable → Verdict
-tableVerdict t = require (wellFormed t) NotWellFormed Accepted
+tableVerdict t = require (wellFormed t) Refusal.NotWellFormed Verdict.Accepted
 
 -- any call of process p, by whether its table of n is well-formed: 7, 2, and then the rest
 abbrev pub processTests : Bool → ℕ → ℕ → Verdict → Verdict
-processTests formed n p rest = require formed NotWellFormed (require (ltb p n) NoSuchProcess rest)
+processTests formed n p rest = require formed Refusal.NotWellFormed (require (ltb p n) Refusal.NoSuchProcess rest)
 
 -- a step or a collection by process p: 7, 2
 unfoldable pub processVerdict : ProcessTable → ℕ → Verdict
-processVerdict t p = processTests (wellFormed t) (t .n) p Accepted
+processVerdict t p = processTests (wellFormed t) (t .head .n) p Verdict.Accepted
 
 -- an offer: "4, then 5, guard by guard" ..
 unfoldable pub requireGuards : ℕ → ℕ → List Guard → Verdict → Verdict
 requireGuards n p [] rest = rest
 requireGuards n p (g ∷ gs) rest =
-    require (partnerFits n p g) Partner
-    (require (not (actionHoldsNan (g .action))) NotANumber
+    require (partnerFits n p g) Refusal.Partner
+    (require (not (actionHoldsNan (g .action))) Refusal.NotANumber
     (requireGuards n p gs rest))
 
 -- .. with 3 before and 6 after them ..
 unfoldable pub listVerdict : ℕ → ℕ → GuardList → Verdict → Verdict
 listVerdict n p list rest =
     let gs = take (list .count) (list .guards) in
-    require (leb 1 (list .count) && leb (list .count) mostGuards) GuardCount
+    require (leb 1 (list .count) && leb (list .count) mostGuards) Refusal.GuardCount
     (requireGuards n p gs
-    (require (anyGuard (λ g. g .enabled) gs) NoneEnabled rest))
+    (require (anyGuard (λ g. g .enabled) gs) Refusal.NoneEnabled rest))
 
 -- .. and from the state 11, then 12
 unfoldable pub stateVerdict : Place → TransactionId → Verdict
-stateVerdict place next = require (isIdle place) NotIdle (require (ltb (next .0) lastTransaction) LastTransaction Accepted)
+stateVerdict place next = require (isIdle place) Refusal.NotIdle (require (ltb (next .0) lastTransaction) Refusal.LastTransaction Verdict.Accepted)
 
 -- the whole: 7, 2, 3, 4 and 5, 6, 11, 12
-abbrev pub offerTests : Bool → ℕ → ℕ → GuardList → Place → TransactionId → Verdict
-offerTests formed n p list place next = processTests formed n p (listVerdict n p list (stateVerdict place next))
+abbrev pub offerTests : Bool → Head → ℕ → GuardList → Place → Verdict
+offerTests formed h p list place = processTests formed (h .n) p (listVerdict (h .n) p list (stateVerdict place (h .next)))
 
 unfoldable pub offerVerdict : ProcessTable → ℕ → GuardList → Verdict
-offerVerdict t p list = offerTests (wellFormed t) (t .n) p list (process t p .place) (t .next)
+offerVerdict t p list = offerTests (wellFormed t) (t .head) p list (process t p .place)

@@ -1,9 +1,6 @@
 -- To be believed as names only, gathered for the definitions here: the libraries' and the types that the code declares. No definition of its own.
-pub use Rattle.alternative.specs.Types.{ℕ, zero, suc, _+_, _^_, _≡_, Bool, true, false, not, _&&_, cond, List, [], _∷_, Option, take, replicate, getD, set, ltb, leb}
+pub use Rattle.alternative.specs.Types.{ℕ, zero, suc, _+_, _^_, _≡_, Bool, true, false, not, _&&_, cond, List, [], _∷_, Option, take, replicate, getD, set}
+pub use Rattle.alternative.specs.Types.{ltb, leb}
 pub use Rattle.alternative.specs.declared.{Message.Message, Guard.Guard, GuardList.GuardList}
 pub use Rattle.process.specs.declared.{TransactionId.TransactionId, Place.Place, Process.Process}
-pub use Rattle.process.specs.declared.Place.the-variants.{Idle, Entering, Scanning, Trying, Committed, Posting, Opening, Showing, Asleep, Waiting, Met}
-pub use Rattle.rendezvous.specs.declared.{ProcessTable.ProcessTable, Refusal.Refusal, Verdict.Verdict, Answer.Answer, Reply.Reply}
-pub use Rattle.rendezvous.specs.declared.Refusal.the-variants.{ProcessCount, NotWellFormed, NoSuchProcess, GuardCount, Partner, NotANumber, NoneEnabled, NotIdle, LastTransaction, NotMet}
-pub use Rattle.rendezvous.specs.declared.Verdict.the-variants.{Accepted}
-pub use Rattle.rendezvous.specs.declared.Answer.the-variants.{Made, Offered, Moved, Unchanged, Collected, Runnable}
+pub use Rattle.rendezvous.specs.declared.{Head.Head, ProcessTable.ProcessTable, Refusal.Refusal, Verdict.Verdict, Answer.Answer, Reply.Reply}

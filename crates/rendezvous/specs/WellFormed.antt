@@ -15,7 +15,7 @@ countFits n = leb 2 n && leb n mostProcesses
 
 -- process p fits; a kept index at C is held against the posted list of the process that its guard names
 unfoldable pub fitsAt : ProcessTable → ℕ → Bool
-fitsAt t p = let x = process t p in processFits (t .n) p x (process t (partnerOf x) .altcount)
+fitsAt t p = let x = process t p in processFits (t .head .n) p x (process t (partnerOf x) .altcount)
 
 unfoldable pub wellFormed : ProcessTable → Bool
-wellFormed t = countFits (t .n) && allBelow (fitsAt t) (t .n)
+wellFormed t = countFits (t .head .n) && allBelow (fitsAt t) (t .head .n)

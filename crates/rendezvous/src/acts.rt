@@ -1,8 +1,9 @@
-// What each call of one process does, from what it reads of the table: whether that is well-formed, its number of processes n, its next
-// ticket, the record x of process p, and for a step the record y of the partner q. The calls carry it out on their table, and so does
+// What each call of one process does, from what it reads of the table: whether that is well-formed, its head, the record x of process
+// p, and for a step the record y of the partner q. The calls carry it out on their table, and so does
 // who keeps a table in its place: a call by value copies it.
 use crate::Act;
 use crate::Answer;
+use crate::Head;
 use crate::Refusal;
 use crate::Verdict;
 use crate::refusals::offer_verdict;
@@ -22,12 +23,12 @@ ghost use Rattle.rendezvous.specs.Calls.{entering};
 ghost use Rattle.rendezvous.specs.Acts.{alone, offerAct, stepAct, collectAct};
 
 // The partner is told nothing.
-pub fn alone(answer: Answer, next: TransactionId, own: Process) -> Act
-    ensures { λ r. ⌜ r ≡ alone answer next own ⌝ }
+pub fn alone(answer: Answer, head: Head, own: Process) -> Act
+    ensures { λ r. ⌜ r ≡ alone answer head own ⌝ }
 {
     Act {
         answer: answer,
-        next: next,
+        head: head,
         own: own,
         told: false,
         accepting: false,
@@ -56,23 +57,18 @@ fn entered(x: Process, ticket: TransactionId, list: GuardList) -> Process
     }
 }
 
-pub fn offer_act(
-    formed: bool,
-    n: u8,
-    next: TransactionId,
-    p: u8,
-    x: Process,
-    list: GuardList,
-) -> Act
-    ensures { λ r. ⌜ r ≡ offerAct formed n next p x list ⌝ }
+pub fn offer_act(formed: bool, head: Head, p: u8, x: Process, list: GuardList) -> Act
+    ensures { λ r. ⌜ r ≡ offerAct formed head p x list ⌝ }
 {
     let place = x.place;
-    match offer_verdict(formed, n, p, list, place, next) {
-        Verdict::Refused(refusal) => alone(Answer::Refused(refusal), next, x),
+    match offer_verdict(formed, head, p, list, place) {
+        Verdict::Refused(refusal) => alone(Answer::Refused(refusal), head, x),
         Verdict::Accepted => {
-            let number = next.0 + 1;
-            let following = TransactionId(number);
-            alone(Answer::Offered(next), following, entered(x, next, list))
+            let ticket = head.next;
+            let following = TransactionId(ticket.0 + 1);
+            let mut after = head;
+            after.next = following;
+            alone(Answer::Offered(ticket), after, entered(x, ticket, list))
         }
     }
 }
@@ -88,19 +84,11 @@ fn moved_answer(moved: bool, place: Place) -> Answer
     }
 }
 
-pub fn step_act(
-    formed: bool,
-    n: u8,
-    next: TransactionId,
-    p: u8,
-    x: Process,
-    q: u8,
-    y: Process,
-) -> Act
-    ensures { λ r. ⌜ r ≡ stepAct formed n next p x q y ⌝ }
+pub fn step_act(formed: bool, head: Head, p: u8, x: Process, q: u8, y: Process) -> Act
+    ensures { λ r. ⌜ r ≡ stepAct formed head p x q y ⌝ }
 {
-    match process_verdict(formed, n, p) {
-        Verdict::Refused(refusal) => alone(Answer::Refused(refusal), next, x),
+    match process_verdict(formed, head.n, p) {
+        Verdict::Refused(refusal) => alone(Answer::Refused(refusal), head, x),
         Verdict::Accepted => {
             let c = rule(p, x, q, y);
             let own = c.own;
@@ -108,7 +96,7 @@ pub fn step_act(
             let signal = c.signal;
             Act {
                 answer: moved_answer(c.moved, place),
-                next: next,
+                head: head,
                 own: own,
                 told: c.told,
                 accepting: c.accepting,
@@ -118,19 +106,19 @@ pub fn step_act(
     }
 }
 
-pub fn collect_act(formed: bool, n: u8, next: TransactionId, p: u8, x: Process) -> Act
-    ensures { λ r. ⌜ r ≡ collectAct formed n next p x ⌝ }
+pub fn collect_act(formed: bool, head: Head, p: u8, x: Process) -> Act
+    ensures { λ r. ⌜ r ≡ collectAct formed head p x ⌝ }
 {
     let place = x.place;
-    match process_verdict(formed, n, p) {
-        Verdict::Refused(refusal) => alone(Answer::Refused(refusal), next, x),
+    match process_verdict(formed, head.n, p) {
+        Verdict::Refused(refusal) => alone(Answer::Refused(refusal), head, x),
         Verdict::Accepted => match place.outcome() {
-            Signal::Absent => alone(Answer::Refused(Refusal::NotMet), next, x),
+            Signal::Absent => alone(Answer::Refused(Refusal::NotMet), head, x),
             Signal::Present(index, m) => {
                 let guards = x.guards;
                 let g = guard_at(x.count, guards, index);
                 let answer = Answer::Collected(index, g.partner, m);
-                alone(answer, next, x.at_place(Place::Idle))
+                alone(answer, head, x.at_place(Place::Idle))
             }
         },
     }

@@ -4,6 +4,7 @@ use process::Place;
 use process::Process;
 use process::Signal;
 use process::TransactionId;
+ghost use Rattle.rendezvous.specs.Forms.{FormsAreWellFormed};
 ghost use Rattle.rendezvous.specs.Acts.{ActsAreCalls};
 ghost use Rattle.rendezvous.specs.Movers.{MoversChange};
 
@@ -22,18 +23,34 @@ pub use acts::alone;
 pub use acts::collect_act;
 pub use acts::offer_act;
 pub use acts::step_act;
-pub use well_formed::count_fits;
+pub use create::fresh_head;
+pub use well_formed::form_end;
+pub use well_formed::form_more;
+pub use well_formed::form_start;
 
 // The most processes that a table holds, and the transaction number that is never given out.
 pub const MOST_PROCESSES: u8 = 32;
 
 pub const LAST_TRANSACTION: u32 = 4294967295;
 
-// Document 01's desk: the number of processes, the next ticket, and a record for each process.
-pub struct ProcessTable {
+// What a table holds beside its records: the number of processes and the next ticket.
+pub struct Head {
     pub n: u8,
     pub next: TransactionId,
-    pub processes: [Process; 32],
+}
+
+// Document 01's desk: its head, and a record for each process.
+pub struct ProcessTable {
+    pub head: Head,
+    pub processes: [Process; MOST_PROCESSES as usize],
+}
+
+// A set of processes: bit p for process p.
+pub type ProcessSet = u32;
+
+// What is known of a table's form where some of its records are tested: whether its head and these fit.
+pub struct Form {
+    pub fits: bool,
 }
 
 // Why a call is turned away. The definition `refusalNumber` gives document 01's number of each.
@@ -64,15 +81,15 @@ pub enum Answer {
     Moved(Place),
     Unchanged,
     Collected(u8, u8, Message),
-    Runnable(u32),
+    Runnable(ProcessSet),
     Refused(Refusal),
 }
 
-// What a call of one process does: its answer, the table's next ticket, the record of the process, and, where the process tells its
+// What a call of one process does: its answer, the table's head, the record of the process, and, where the process tells its
 // partner something, the partner's wake count and signal.
 pub struct Act {
     pub answer: Answer,
-    pub next: TransactionId,
+    pub head: Head,
     pub own: Process,
     pub told: bool,
     pub accepting: bool,
@@ -88,6 +105,11 @@ pub struct Reply {
 // Carries the claim that the set of `runnable` tells which steps change the table, so that the verdict has a line for it.
 pub fn movers_change()
     ensures { λ _. ⌜ MoversChange ⌝ }
+{}
+
+// Carries the claim that the three parts of the form test, over all records, are the test.
+pub fn forms_are_well_formed()
+    ensures { λ _. ⌜ FormsAreWellFormed ⌝ }
 {}
 
 // Carries the claim that an act, carried out on the table that was read, is the call.

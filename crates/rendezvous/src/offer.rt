@@ -1,11 +1,12 @@
 // Offers of a list that is given by value.
+use crate::MOST_PROCESSES;
 use crate::ProcessTable;
 use crate::Reply;
 use crate::acts::offer_act;
-use crate::well_formed::count_fits;
+use crate::well_formed::form_end;
+use crate::well_formed::form_more;
+use crate::well_formed::form_start;
 use alternative::GuardList;
-use process::posted_by;
-use process::process_fits;
 ghost use mathlib.Core.Path.{_≡_};
 ghost use Rattle.rendezvous.specs.Calls.{offerList};
 
@@ -15,27 +16,27 @@ impl ProcessTable {
         ensures { λ r. ⌜ r ≡ offerList self p list ⌝ }
     {
         let mut t = self;
-        let n = t.n;
-        let mut formed = count_fits(n);
+        let head = t.head;
+        let mut form = form_start(head);
         let mut k: u8 = 0;
-        while k < n {
-            let at = (k % 32) as usize;
+        while k < head.n {
+            let at = (k % MOST_PROCESSES) as usize;
             let z = t.processes[at];
             let named = z.committed_to();
-            let there = (named % 32) as usize;
+            let there = (named % MOST_PROCESSES) as usize;
             let posted = t.processes[there].altcount;
-            formed = formed & process_fits(n, k, z, posted_by(named, posted));
+            form = form_more(form, head, k, z, named, posted);
             k = k + 1;
         }
-        let i = (p % 32) as usize;
+        let formed = form_end(form, head);
+        let i = (p % MOST_PROCESSES) as usize;
         let x = t.processes[i];
-        let next = t.next;
-        let act = offer_act(formed, n, next, p, x, list);
+        let act = offer_act(formed, head, p, x, list);
         let own = act.own;
-        let following = act.next;
+        let after = act.head;
         let answer = act.answer;
         t.processes[i] = own;
-        t.next = following;
+        t.head = after;
         Reply {
             answer: answer,
             table: t,

@@ -1,4 +1,5 @@
 // What turns a call of one process away: the tests in their order, on what the call reads of the table.
+use crate::Head;
 use crate::LAST_TRANSACTION;
 use crate::Refusal;
 use crate::Verdict;
@@ -88,24 +89,20 @@ fn state_verdict(place: Place, next: TransactionId) -> Verdict
 }
 
 // Every refusal of an offer, in its order: `formed` says whether the table is well-formed, `place` is the process's.
-pub fn offer_verdict(
-    formed: bool,
-    n: u8,
-    p: u8,
-    list: GuardList,
-    place: Place,
-    next: TransactionId,
-) -> Verdict
-    ensures { λ r. ⌜ r ≡ offerTests formed n p list place next ⌝ }
+pub fn offer_verdict(formed: bool, head: Head, p: u8, list: GuardList, place: Place) -> Verdict
+    ensures { λ r. ⌜ r ≡ offerTests formed head p list place ⌝ }
 {
     if !formed {
         return Verdict::Refused(Refusal::NotWellFormed);
     }
-    if n <= p {
+    if head.n <= p {
         return Verdict::Refused(Refusal::NoSuchProcess);
     }
-    match list_verdict(n, p, list) {
+    match list_verdict(head.n, p, list) {
         Verdict::Refused(refusal) => Verdict::Refused(refusal),
-        Verdict::Accepted => state_verdict(place, next),
+        Verdict::Accepted => {
+            let next = head.next;
+            state_verdict(place, next)
+        }
     }
 }

@@ -1,50 +1,58 @@
 // The call that gives the set of processes that can move.
 use crate::Answer;
+use crate::MOST_PROCESSES;
+use crate::ProcessSet;
 use crate::ProcessTable;
 use crate::Refusal;
 use crate::Reply;
-use crate::well_formed::count_fits;
-use process::posted_by;
-use process::process_fits;
+use crate::well_formed::form_end;
+use crate::well_formed::form_more;
+use crate::well_formed::form_start;
 use process::would_change;
 ghost use mathlib.Core.Path.{_≡_};
-ghost use Rattle.rendezvous.specs.Calls.{runnable};
+ghost use mathlib.Core.Bool.{cond};
+ghost use Rattle.rendezvous.specs.Movers.{runnable};
+
+// The set of process 0 alone, or of none.
+fn lowest(is: bool) -> ProcessSet
+    ensures { λ r. ⌜ r ≡ cond is 1 0 ⌝ }
+{
+    if is { 1 } else { 0 }
+}
 
 impl ProcessTable {
-    // The set of processes that a step would change: bit p for process p.
+    // The set of processes that a step would change. It is put together from its last bit down, so that no number on the way is larger
+    // than the set.
     pub fn runnable(self) -> Reply
         ensures { λ r. ⌜ r ≡ runnable self ⌝ }
     {
         let t = self;
-        let n = t.n;
-        let mut formed = count_fits(n);
+        let head = t.head;
+        let mut form = form_start(head);
         let mut k: u8 = 0;
-        while k < n {
-            let at = (k % 32) as usize;
+        while k < head.n {
+            let at = (k % MOST_PROCESSES) as usize;
             let z = t.processes[at];
             let named = z.committed_to();
-            let there = (named % 32) as usize;
+            let there = (named % MOST_PROCESSES) as usize;
             let posted = t.processes[there].altcount;
-            formed = formed & process_fits(n, k, z, posted_by(named, posted));
+            form = form_more(form, head, k, z, named, posted);
             k = k + 1;
         }
+        let formed = form_end(form, head);
         let answer = if formed {
-            let mut set: u64 = 0;
-            let mut bit: u64 = 1;
-            let mut p: u8 = 0;
-            while p < n {
-                let i = (p % 32) as usize;
+            let mut set: ProcessSet = 0;
+            let mut p: u8 = head.n;
+            while 0 < p {
+                p = p - 1;
+                let i = (p % MOST_PROCESSES) as usize;
                 let x = t.processes[i];
                 let q = x.partner();
-                let j = (q % 32) as usize;
+                let j = (q % MOST_PROCESSES) as usize;
                 let y = t.processes[j];
-                if would_change(x, y) {
-                    set = set + bit;
-                }
-                bit = bit * 2;
-                p = p + 1;
+                set = set * 2 + lowest(would_change(x, y));
             }
-            Answer::Runnable(set as u32)
+            Answer::Runnable(set)
         } else {
             Answer::Refused(Refusal::NotWellFormed)
         };

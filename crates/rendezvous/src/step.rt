@@ -1,10 +1,11 @@
 // The call that moves one process by one rule.
+use crate::MOST_PROCESSES;
 use crate::ProcessTable;
 use crate::Reply;
 use crate::acts::step_act;
-use crate::well_formed::count_fits;
-use process::posted_by;
-use process::process_fits;
+use crate::well_formed::form_end;
+use crate::well_formed::form_more;
+use crate::well_formed::form_start;
 ghost use mathlib.Core.Path.{_≡_};
 ghost use Rattle.rendezvous.specs.Calls.{step};
 
@@ -14,36 +15,36 @@ impl ProcessTable {
         ensures { λ r. ⌜ r ≡ step self p ⌝ }
     {
         let mut t = self;
-        let n = t.n;
-        let mut formed = count_fits(n);
+        let head = t.head;
+        let mut form = form_start(head);
         let mut k: u8 = 0;
-        while k < n {
-            let at = (k % 32) as usize;
+        while k < head.n {
+            let at = (k % MOST_PROCESSES) as usize;
             let z = t.processes[at];
             let named = z.committed_to();
-            let there = (named % 32) as usize;
+            let there = (named % MOST_PROCESSES) as usize;
             let posted = t.processes[there].altcount;
-            formed = formed & process_fits(n, k, z, posted_by(named, posted));
+            form = form_more(form, head, k, z, named, posted);
             k = k + 1;
         }
-        let i = (p % 32) as usize;
+        let formed = form_end(form, head);
+        let i = (p % MOST_PROCESSES) as usize;
         let x = t.processes[i];
         let q = x.partner();
-        let j = (q % 32) as usize;
+        let j = (q % MOST_PROCESSES) as usize;
         let y = t.processes[j];
-        let next = t.next;
-        let act = step_act(formed, n, next, p, x, q, y);
+        let act = step_act(formed, head, p, x, q, y);
         if act.told {
-            // Read anew: y would be kept, and so copied, across the rule.
+            // Read anew: y would be held, and so copied, across the rule.
             let partner = t.processes[j];
             let signal = act.signal;
             t.processes[j] = partner.told(act.accepting, signal);
         }
         let own = act.own;
-        let following = act.next;
+        let after = act.head;
         let answer = act.answer;
         t.processes[i] = own;
-        t.next = following;
+        t.head = after;
         Reply {
             answer: answer,
             table: t,

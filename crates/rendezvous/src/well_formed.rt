@@ -1,10 +1,13 @@
 // Refusal 7: whether a table is well-formed, whatever it holds.
+use crate::Form;
+use crate::Head;
 use crate::MOST_PROCESSES;
 use crate::ProcessTable;
-use process::posted_by;
+use process::Process;
 use process::process_fits;
 ghost use mathlib.Core.Path.{_≡_};
 ghost use Rattle.rendezvous.specs.WellFormed.{countFits, wellFormed};
+ghost use Rattle.rendezvous.specs.Forms.{postedBy, formStart, formMore, formEnd};
 
 pub fn count_fits(n: u8) -> bool
     ensures { λ r. ⌜ r ≡ countFits n ⌝ }
@@ -12,24 +15,57 @@ pub fn count_fits(n: u8) -> bool
     (2 <= n) & (n <= MOST_PROCESSES)
 }
 
+// How many guards process q has posted, where `posted` is the count of the record that was read for it: none outside the table.
+fn posted_by(q: u8, posted: u8) -> u8
+    ensures { λ r. ⌜ r ≡ postedBy q posted ⌝ }
+{
+    if q < MOST_PROCESSES { posted } else { 0 }
+}
+
+// The test begins with the head. It has three parts, so that the loop over the records, which stands in each call, holds no condition of 7.
+pub fn form_start(head: Head) -> Form
+    ensures { λ r. ⌜ r ≡ formStart head ⌝ }
+{
+    Form {
+        fits: count_fits(head.n),
+    }
+}
+
+// It goes on with process k, whose guard at C names q; `posted` is the count of the record that was read for q.
+pub fn form_more(form: Form, head: Head, k: u8, x: Process, q: u8, posted: u8) -> Form
+    ensures { λ r. ⌜ r ≡ formMore form head k x (postedBy q posted) ⌝ }
+{
+    let fits = process_fits(head.n, k, x, posted_by(q, posted));
+    Form {
+        fits: form.fits & fits,
+    }
+}
+
+// It ends once every process is tested; the head is there to be held against what was found.
+pub fn form_end(form: Form, head: Head) -> bool
+    ensures { λ r. ⌜ r ≡ formEnd form head ⌝ }
+{
+    form.fits
+}
+
 impl ProcessTable {
-    // The calls have this loop written out, and each makes its reply at one place: a use of the table as a parameter, or a second place,
-    // would be one or two more copies of it.
+    // A call that must be quick has this loop written out, and makes its reply at one place: a use of the table as a parameter, or a second
+    // place, would be one or two more copies of it.
     pub fn well_formed(self) -> bool
         ensures { λ r. ⌜ r ≡ wellFormed self ⌝ }
     {
-        let n = self.n;
-        let mut formed = count_fits(n);
+        let head = self.head;
+        let mut form = form_start(head);
         let mut k: u8 = 0;
-        while k < n {
-            let at = (k % 32) as usize;
+        while k < head.n {
+            let at = (k % MOST_PROCESSES) as usize;
             let z = self.processes[at];
-            let named = z.committed_to();
-            let there = (named % 32) as usize;
+            let q = z.committed_to();
+            let there = (q % MOST_PROCESSES) as usize;
             let posted = self.processes[there].altcount;
-            formed = formed & process_fits(n, k, z, posted_by(named, posted));
+            form = form_more(form, head, k, z, q, posted);
             k = k + 1;
         }
-        formed
+        form_end(form, head)
     }
 }

@@ -13,17 +13,17 @@ use Rattle.script.specs.Types.{ProcessTable}
 use Rattle.script.specs.Printing.{refusalText, endOfLine, ended}
 use Rattle.script.specs.Lines.{Ended, unended, linesFrom, mostBytes, lineCommand}
 use Rattle.script.specs.Session.{turn, printedBy, output}
-use Rattle.script.specs.Feeding.{State, start, fed, fedByte, lineEnded, lineGrown, fedPieces, finished, Pieces}
-use Rattle.text.proofs.Kept.{take-again}
+use Rattle.script.specs.Feeding.{SessionState, start, fed, fedByte, lineEnded, lineGrown, fedPieces, finished, Pieces}
+use Rattle.text.proofs.Capped.{take-again}
 
 -- what a begun line and the bytes after it print
 rest : Option ProcessTable → List ℕ → List ℕ → List ℕ
 rest table begun bs = printedBy table (linesFrom begun bs)
 
 -- one byte more than a line may have tells an overlong line
-kept-command : (line : List ℕ) → lineCommand (Ended (take (suc mostBytes) line)) ≡ lineCommand (Ended line)
+cut-command : (line : List ℕ) → lineCommand (Ended (take (suc mostBytes) line)) ≡ lineCommand (Ended line)
 unfolding lineCommand
-kept-command line = go (leb (length line) mostBytes) refl
+cut-command line = go (leb (length line) mostBytes) refl
   where
     go : (b : Bool) → leb (length line) mostBytes ≡ b → lineCommand (Ended (take (suc mostBytes) line)) ≡ lineCommand (Ended line)
     go true t = let h = leb-true (length line) mostBytes t in rw (take-all (suc mostBytes) line (omega arith))
@@ -32,18 +32,18 @@ kept-command line = go (leb (length line) mostBytes) refl
         let g : mostBytes < length (take (suc mostBytes) line) = simp length-take (omega arith) in
         rw (t, lt-leb (length (take (suc mostBytes) line)) mostBytes g)
 
-kept-unended : (begun : List ℕ) → unended (take (suc mostBytes) begun) ≡ unended begun
-kept-unended [] = refl
-kept-unended (b ∷ begun) = refl
+cut-unended : (begun : List ℕ) → unended (take (suc mostBytes) begun) ≡ unended begun
+cut-unended [] = refl
+cut-unended (b ∷ begun) = refl
 
-kept-rest : (table : Option ProcessTable) (begun bs : List ℕ) → rest table (take (suc mostBytes) begun) bs ≡ rest table begun bs
+cut-rest : (table : Option ProcessTable) (begun bs : List ℕ) → rest table (take (suc mostBytes) begun) bs ≡ rest table begun bs
 unfolding rest linesFrom printedBy
-kept-rest table begun [] = rw (kept-unended begun)
-kept-rest table begun (b ∷ bs) = go (eqb b endOfLine) refl (λ l. kept-rest table l bs)
+cut-rest table begun [] = rw (cut-unended begun)
+cut-rest table begun (b ∷ bs) = go (eqb b endOfLine) refl (λ l. cut-rest table l bs)
   where
     go : (e : Bool) → eqb b endOfLine ≡ e → ((l : List ℕ) → rest table (take (suc mostBytes) l) bs ≡ rest table l bs)
         → rest table (take (suc mostBytes) begun) (b ∷ bs) ≡ rest table begun (b ∷ bs)
-    go true t more = rw (t, kept-command begun)
+    go true t more = rw (t, cut-command begun)
     go false t more =
         rw t
         (sym (more (take (suc mostBytes) begun ++ b ∷ []))
@@ -51,16 +51,16 @@ kept-rest table begun (b ∷ bs) = go (eqb b endOfLine) refl (λ l. kept-rest ta
         ∙ more (begun ++ b ∷ []))
 
 -- one byte
-fed-one : (s : State) (b : ℕ) (bs : List ℕ) → let one = fedByte s b in one .prints ++ rest (one .state .table) (one .state .begun) bs ≡ rest (s .table) (s .begun) (b ∷ bs)
+fed-one : (s : SessionState) (b : ℕ) (bs : List ℕ) → let one = fedByte s b in one .prints ++ rest (one .state .table) (one .state .begun) bs ≡ rest (s .table) (s .begun) (b ∷ bs)
 unfolding rest linesFrom printedBy fedByte lineEnded lineGrown
 fed-one s b bs = go (eqb b endOfLine) refl
   where
     go : (e : Bool) → eqb b endOfLine ≡ e → let one = fedByte s b in one .prints ++ rest (one .state .table) (one .state .begun) bs ≡ rest (s .table) (s .begun) (b ∷ bs)
     go true t = rw t
-    go false t = rw t (kept-rest (s .table) (s .begun ++ b ∷ []) bs)
+    go false t = rw t (cut-rest (s .table) (s .begun ++ b ∷ []) bs)
 
 -- one piece, and what comes after it
-fed-piece : (s : State) (piece bs : List ℕ) → let one = fed s piece in one .prints ++ rest (one .state .table) (one .state .begun) bs ≡ rest (s .table) (s .begun) (piece ++ bs)
+fed-piece : (s : SessionState) (piece bs : List ℕ) → let one = fed s piece in one .prints ++ rest (one .state .table) (one .state .begun) bs ≡ rest (s .table) (s .begun) (piece ++ bs)
 unfolding fed
 fed-piece s [] bs = refl
 fed-piece s (b ∷ piece) bs =
@@ -70,7 +70,7 @@ fed-piece s (b ∷ piece) bs =
     ∙ ap (λ (l : List ℕ). one .prints ++ l) (fed-piece (one .state) piece bs)
     ∙ fed-one s b (piece ++ bs)
 
-fed-all : (s : State) (pieces : List (List ℕ)) → let all = fedPieces s pieces in all .prints ++ finished (all .state) ≡ rest (s .table) (s .begun) (flatten pieces)
+fed-all : (s : SessionState) (pieces : List (List ℕ)) → let all = fedPieces s pieces in all .prints ++ finished (all .state) ≡ rest (s .table) (s .begun) (flatten pieces)
 unfolding fedPieces finished rest flatten
 fed-all s [] = refl
 fed-all s (piece ∷ pieces) =
@@ -85,11 +85,11 @@ unfolding output rest
 pieces-hold pieces = fed-all start pieces
 
 -- the end of the input
-pub finished-empty : (s : State) → s .begun ≡ [] → finished s ≡ []
+pub finished-empty : (s : SessionState) → s .begun ≡ [] → finished s ≡ []
 unfolding finished linesFrom printedBy
 finished-empty s e = rw e
 
-pub finished-begun : (s : State) → 0 < length (s .begun) → finished s ≡ ended (refusalText 8)
+pub finished-begun : (s : SessionState) → 0 < length (s .begun) → finished s ≡ ended (refusalText 8)
 unfolding finished linesFrom printedBy lineCommand turn
 finished-begun s h = go (s .begun) h
   where

@@ -2,21 +2,25 @@
 use mathlib.Core.Path.{refl}
 use mathlib.Core.List.{flatten}
 use lib.Ieee.{ofBits, toBits}
-use Rattle.alternative.specs.Guards.{guardsMatch, anyGuard, firstFrom, firstMatch, nextEnabled, slots, lent}
+use Rattle.alternative.specs.Guards.{guardsMatch, anyGuard, firstFrom, keptMatch, nextEnabled, slots, lent}
 use Rattle.process.specs.Rules.{scanFrom, handOver, rule}
 use Rattle.process.specs.Fits.{allGuards, partnerFits, listFits, processFits}
 use Rattle.rendezvous.specs.WellFormed.{allBelow, countFits, fitsAt, wellFormed}
 use Rattle.rendezvous.specs.Refusals.{requireGuards, createVerdict, tableVerdict, processVerdict, listVerdict, stateVerdict, offerVerdict}
-use Rattle.rendezvous.specs.Calls.{create, entering, offered, offerList, effectOn, stepped, step, collect, setBelow, runnableSet, runnable}
+use Rattle.rendezvous.specs.Calls.{create, entering, offered, offerList, effectOn, stepped, step, collect}
+use Rattle.rendezvous.specs.Movers.{setBelow, runnableSet, runnable}
+use Rattle.rendezvous.specs.Run.{replyTo}
+use Rattle.rendezvous.specs.Commands.{replyToCommand}
 use Rattle.text.specs.Ascii.{bytes}
 use Rattle.text.specs.Reading.{decimalFrom, decimal, byteNumber, whole, hexDigit, hexFrom, hexWord}
 use Rattle.text.specs.Writing.{decimalUpTo, wholeText, hexUpTo}
-use Rattle.command.specs.Commands.{fields, wholeOf, readingOf, limitOf, messageBy, messageOf, sendOf, actionBy, actionOf, leading, guardFrom, guardOf, guardsOf, numberOf, offerOf, numbered, byLetter, commandIn, commandOf}
+use Rattle.command.specs.Commands.{fields, wholeIn, readingIn, limitIn, messageBy, messageIn, sendIn, actionBy, actionIn, leading, guardFrom, guardIn}
+use Rattle.command.specs.Commands.{guardsIn, numberIn, offerIn, numbered, byLetter, commandIn, commandOf}
 use Rattle.script.specs.Printing.{messageText, answerText}
 use Rattle.script.specs.Lines.{linesFrom, lineCommand}
-use Rattle.script.specs.Session.{replyTo, answered, turn, printedBy, output}
+use Rattle.script.specs.Session.{replyFrom, answered, turn, printedBy, output}
 use Rattle.script.specs.Examples.{offerLine, MarkedSession, CarriedMessages, MalformedLines}
 
 pub examples-hold : MarkedSession × CarriedMessages × MalformedLines
-unfolding guardsMatch anyGuard firstFrom firstMatch nextEnabled slots lent scanFrom handOver rule allGuards allBelow countFits partnerFits listFits processFits fitsAt wellFormed requireGuards createVerdict tableVerdict processVerdict listVerdict stateVerdict offerVerdict create entering offered offerList effectOn stepped step collect setBelow runnableSet runnable decimalFrom decimal byteNumber whole hexDigit hexFrom hexWord decimalUpTo wholeText hexUpTo fields wholeOf readingOf limitOf messageBy messageOf sendOf actionBy actionOf leading guardFrom guardOf guardsOf numberOf offerOf numbered byLetter commandIn commandOf messageText answerText linesFrom lineCommand replyTo answered turn printedBy output bytes offerLine flatten ofBits toBits lib.Ieee.isNan
+unfolding guardsMatch anyGuard firstFrom keptMatch nextEnabled slots lent scanFrom handOver rule allGuards allBelow countFits partnerFits listFits processFits fitsAt wellFormed requireGuards createVerdict tableVerdict processVerdict listVerdict stateVerdict offerVerdict create entering offered offerList effectOn stepped step collect setBelow runnableSet runnable replyTo replyToCommand decimalFrom decimal byteNumber whole hexDigit hexFrom hexWord decimalUpTo wholeText hexUpTo fields wholeIn readingIn limitIn messageBy messageIn sendIn actionBy actionIn leading guardFrom guardIn guardsIn numberIn offerIn numbered byLetter commandIn commandOf messageText answerText linesFrom lineCommand replyFrom answered turn printedBy output bytes offerLine flatten ofBits toBits lib.Ieee.isNan
 examples-hold = (refl, refl, refl)

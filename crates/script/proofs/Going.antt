@@ -12,21 +12,21 @@ use Rattle.script.specs.Types.{ProcessTable}
 use Rattle.script.specs.Printing.{endOfLine}
 use Rattle.script.specs.Lines.{Ended, mostBytes, lineCommand}
 use Rattle.script.specs.Session.{Turn, turn}
-use Rattle.script.specs.Feeding.{State, After, andThen, lineEnded, lineGrown, fedByte, fed}
+use Rattle.script.specs.Feeding.{SessionState, After, andThen, lineEnded, lineGrown, fedByte, fed}
 use Rattle.script.proofs.Turns.{turn-length}
 
 -- after i bytes of the input: the state, and the output with what is filled
-pub record Going (s₀ : State) (input out₀ : List ℕ) (s : State) (i : ℕ) (out : List ℕ) (filled : ℕ) : Type 0 where
+pub record Going (s₀ : SessionState) (input out₀ : List ℕ) (s : SessionState) (i : ℕ) (out : List ℕ) (filled : ℕ) : Type 0 where
   pub same : andThen (take filled out) (fed s (drop i input)) ≡ fed s₀ input
   pub past : drop filled out ≡ drop filled out₀
   pub room : filled ≤ 64 * i
   pub long : length out ≡ length out₀
 
-pub going-start : (s : State) (input out : List ℕ) → Going s input out s 0 out 0
+pub going-start : (s : SessionState) (input out : List ℕ) → Going s input out s 0 out 0
 going-start s input out = record { same = refl; past = refl; room = omega arith; long = refl }
 
 -- what is left of the input begins with its byte at i
-one-more : (s : State) (input : List ℕ) (i : ℕ) → i < length input → let one = fedByte s (getD input i 0) in fed s (drop i input) ≡ andThen (one .prints) (fed (one .state) (drop (i + 1) input))
+one-more : (s : SessionState) (input : List ℕ) (i : ℕ) → i < length input → let one = fedByte s (getD input i 0) in fed s (drop i input) ≡ andThen (one .prints) (fed (one .state) (drop (i + 1) input))
 unfolding fed
 one-more s input i h = rw (drop-cons input i 0 h, add-one)
 
@@ -36,7 +36,7 @@ joined done prints f = ap (λ (l : List ℕ). with-prints l) (sym (append-assoc 
     with-prints : List ℕ → After
     with-prints l = record { prints = l; state = f .state }
 
-module _ (s₀ : State) (input out₀ : List ℕ) (s : State) (i : ℕ) (out : List ℕ) (filled b : ℕ) (g : Going s₀ input out₀ s i out filled) (h : i < length input) (e : b ≡ getD input i 0) where
+module _ (s₀ : SessionState) (input out₀ : List ℕ) (s : SessionState) (i : ℕ) (out : List ℕ) (filled b : ℕ) (g : Going s₀ input out₀ s i out filled) (h : i < length input) (e : b ≡ getD input i 0) where
   rest : List ℕ
   rest = drop (i + 1) input
 
@@ -71,12 +71,12 @@ module _ (s₀ : State) (input out₀ : List ℕ) (s : State) (i : ℕ) (out : L
       }
 
 -- all of the input is fed
-pub record GoneAll (s₀ : State) (input out₀ : List ℕ) (s : State) (out : List ℕ) (filled : ℕ) : Type 0 where
+pub record GoneAll (s₀ : SessionState) (input out₀ : List ℕ) (s : SessionState) (out : List ℕ) (filled : ℕ) : Type 0 where
   pub fills : filled ≡ length (fed s₀ input .prints)
   pub leaves : s ≡ fed s₀ input .state
   pub writes : out ≡ fed s₀ input .prints ++ drop filled out₀
 
-pub going-end : (s₀ : State) (input out₀ : List ℕ) (s : State) (i : ℕ) (out : List ℕ) (filled : ℕ) → Going s₀ input out₀ s i out filled
+pub going-end : (s₀ : SessionState) (input out₀ : List ℕ) (s : SessionState) (i : ℕ) (out : List ℕ) (filled : ℕ) → Going s₀ input out₀ s i out filled
     → length input ≤ i → filled ≤ length out → GoneAll s₀ input out₀ s out filled
 unfolding fed
 going-end s₀ input out₀ s i out filled g h r =

@@ -1,4 +1,4 @@
--- A law of lists that are kept to a length.
+-- A law of lists that are cut to a length.
 use Prim.Native.Nat.{ℕ, _<_, min}
 use mathlib.Core.Path.{_≡_, refl, sym, _∙_}
 use mathlib.Core.Bool.{Bool, true, false}

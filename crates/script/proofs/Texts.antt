@@ -6,30 +6,30 @@ use mathlib.Core.Option.{Option, some, none}
 use native.Mathlib.Omega.{arith}
 use lib.ListN.{length, length-append}
 use lib.Ieee.{binary32, toBits}
-use Rattle.alternative.specs.declared.Found.the-variants.{At, Missing}
-use Rattle.text.specs.Writing.{kept, decimalText}
-use Rattle.text.proofs.Kept.{kept-short}
+use Rattle.text.specs.Writing.{capped, decimalText}
+use Rattle.text.proofs.Capped.{capped-short}
 use Rattle.text.proofs.Printed.{decimal-text-length, whole-text-length, hex-text-length}
 use Rattle.rendezvous.specs.Numbers.{Said, made, ticket, place, same, outcome, movers, refusal}
-use Rattle.script.specs.Types.{Message, Nothing, Whole, Reading, Limit}
+use Rattle.script.specs.Types.{Message}
 use Rattle.script.specs.Printing.{messageText, field, refusalText, answerText, ended}
-use Rattle.process.specs.Form.{asFound}
+use Rattle.alternative.specs.declared.Found.{Found}
+use Rattle.process.specs.InCode.{asFound}
 
 -- an index that the code finds or misses
-pub found-none : (o : Option ℕ) → asFound o ≡ Missing → o ≡ none
+pub found-none : (o : Option ℕ) → asFound o ≡ Found.Missing → o ≡ none
 found-none none e = refl
 found-none (some i) e = let z : _≡_ {A = ℕ} 0 1 = cc in absurd (omega arith)
 
-pub found-some : (o : Option ℕ) (i : ℕ) → asFound o ≡ At i → o ≡ some i
+pub found-some : (o : Option ℕ) (i : ℕ) → asFound o ≡ Found.At i → o ≡ some i
 found-some none i e = let z : _≡_ {A = ℕ} 0 1 = cc in absurd (omega arith)
 found-some (some j) i e = cc
 
 message-length : (m : Message) → length (messageText m) ≤ 17
 unfolding messageText
-message-length Nothing = omega arith
-message-length (Whole x) = omega (arith, whole-text-length x)
-message-length (Reading x) = omega (arith, hex-text-length (toBits binary32 x))
-message-length (Limit low high) = simp length-append (omega (arith, hex-text-length (toBits binary32 low), hex-text-length (toBits binary32 high)))
+message-length Message.Nothing = omega arith
+message-length (Message.Whole x) = omega (arith, whole-text-length x)
+message-length (Message.Reading x) = omega (arith, hex-text-length (toBits binary32 x))
+message-length (Message.Limit low high) = simp length-append (omega (arith, hex-text-length (toBits binary32 low), hex-text-length (toBits binary32 high)))
 
 -- a command's text has 12 bytes at most, and what is put after it 41
 pub answer-length : (command : List ℕ) (s : Said) → length command ≤ 12 → length (answerText command s) ≤ 53
@@ -43,24 +43,24 @@ answer-length command (outcome i q m) h = simp length-append (omega (arith, deci
 answer-length command (movers set) h = simp length-append (omega (arith, hex-text-length set))
 answer-length command (refusal k) h = omega (arith, decimal-text-length k)
 
-line-kept : (command : List ℕ) (s : Said) → length command ≤ 12 → kept (ended (answerText command s)) ≡ ended (answerText command s)
-line-kept command s h = kept-short (ended (answerText command s)) (simp length-append (omega (arith, answer-length command s h)))
+line-capped : (command : List ℕ) (s : Said) → length command ≤ 12 → capped (ended (answerText command s)) ≡ ended (answerText command s)
+line-capped command s h = capped-short (ended (answerText command s)) (simp length-append (omega (arith, answer-length command s h)))
 
-pub line-text : {begun text : List ℕ} (command : List ℕ) (s : Said) → length command ≤ 12 → begun ≡ command → text ≡ kept (ended (answerText begun s)) → text ≡ ended (answerText command s)
-line-text command s h b e = e ∙ rw b (line-kept command s h)
+pub line-text : {begun text : List ℕ} (command : List ℕ) (s : Said) → length command ≤ 12 → begun ≡ command → text ≡ capped (ended (answerText begun s)) → text ≡ ended (answerText command s)
+line-text command s h b e = e ∙ rw b (line-capped command s h)
 
 pub number-length : (letter n : ℕ) → length (letter ∷ field (decimalText n)) ≤ 12
 number-length letter n = omega (arith, decimal-text-length n)
 
-pub number-kept : (letter n : ℕ) → kept (letter ∷ field (decimalText n)) ≡ letter ∷ field (decimalText n)
-number-kept letter n = kept-short (letter ∷ field (decimalText n)) (omega (arith, decimal-text-length n))
+pub number-capped : (letter n : ℕ) → capped (letter ∷ field (decimalText n)) ≡ letter ∷ field (decimalText n)
+number-capped letter n = capped-short (letter ∷ field (decimalText n)) (omega (arith, decimal-text-length n))
 
 -- a text of one letter
-pub letter-kept : (letter : ℕ) {empty one : List ℕ} → empty ≡ [] → one ≡ kept (empty ++ letter ∷ []) → one ≡ letter ∷ []
-letter-kept letter e f = f ∙ rw e (kept-short (letter ∷ []) (omega arith))
+pub letter-capped : (letter : ℕ) {empty one : List ℕ} → empty ≡ [] → one ≡ capped (empty ++ letter ∷ []) → one ≡ letter ∷ []
+letter-capped letter e f = f ∙ rw e (capped-short (letter ∷ []) (omega arith))
 
 pub refusal-length : (k : ℕ) → length (ended (refusalText k)) ≤ 64
 refusal-length k = simp length-append (omega (arith, decimal-text-length k))
 
-pub refusal-kept : (k : ℕ) → kept (ended (refusalText k)) ≡ ended (refusalText k)
-refusal-kept k = kept-short (ended (refusalText k)) (refusal-length k)
+pub refusal-capped : (k : ℕ) → capped (ended (refusalText k)) ≡ ended (refusalText k)
+refusal-capped k = capped-short (ended (refusalText k)) (refusal-length k)

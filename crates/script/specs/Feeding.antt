@@ -11,49 +11,49 @@ use Rattle.script.specs.Printing.{endOfLine}
 use Rattle.script.specs.Lines.{Ended, linesFrom, mostBytes, lineCommand}
 use Rattle.script.specs.Session.{turn, printedBy, output}
 
--- Between two pieces: the begun line, and the table. Of an overlong line one byte more than it may have is kept, which shows that it is one.
-pub record State : Type 0 where
+-- Between two pieces: the begun line, and the table. Of an overlong line one byte more than it may have is held, which shows that it is one.
+pub record SessionState : Type 0 where
   pub begun : List ℕ
   pub table : Option ProcessTable
 
-abbrev pub start : State
+abbrev pub start : SessionState
 start = record { begun = []; table = none }
 
 -- .. as the code holds them
-abbrev pub tableOf : Bool → ProcessTable → Option ProcessTable
-tableOf made table = cond made (some table) none
+abbrev pub tableIf : Bool → ProcessTable → Option ProcessTable
+tableIf made table = cond made (some table) none
 
-abbrev pub stateOf : Session → State
-stateOf s = record { begun = take (s .length) (s .bytes); table = tableOf (s .made) (s .table) }
+abbrev pub stateHeld : Session → SessionState
+stateHeld s = record { begun = take (s .length) (s .bytes); table = tableIf (s .made) (s .table) }
 
 -- What a piece prints, and the state after it.
 pub record After : Type 0 where
   pub prints : List ℕ
-  pub state : State
+  pub state : SessionState
 
 abbrev pub andThen : List ℕ → After → After
 andThen prints fed = record { prints = prints ++ fed .prints; state = fed .state }
 
 -- a byte that ends the line, and one that goes on with it
-unfoldable pub lineEnded : State → After
+unfoldable pub lineEnded : SessionState → After
 lineEnded s = let now = turn (s .table) (lineCommand (Ended (s .begun))) in record { prints = now .prints; state = record { begun = []; table = now .table } }
 
-unfoldable pub lineGrown : State → ℕ → After
+unfoldable pub lineGrown : SessionState → ℕ → After
 lineGrown s b = record { prints = []; state = record { begun = take (suc mostBytes) (s .begun ++ b ∷ []); table = s .table } }
 
-unfoldable pub fedByte : State → ℕ → After
+unfoldable pub fedByte : SessionState → ℕ → After
 fedByte s b = cond (eqb b endOfLine) (lineEnded s) (lineGrown s b)
 
-unfoldable pub fed : State → List ℕ → After
+unfoldable pub fed : SessionState → List ℕ → After
 fed s [] = record { prints = []; state = s }
 fed s (b ∷ bs) = let one = fedByte s b in andThen (one .prints) (fed (one .state) bs)
 
-unfoldable pub fedPieces : State → List (List ℕ) → After
+unfoldable pub fedPieces : SessionState → List (List ℕ) → After
 fedPieces s [] = record { prints = []; state = s }
 fedPieces s (piece ∷ pieces) = let one = fed s piece in andThen (one .prints) (fedPieces (one .state) pieces)
 
 -- at the end of the input: what an unended last line prints
-unfoldable pub finished : State → List ℕ
+unfoldable pub finished : SessionState → List ℕ
 finished s = printedBy (s .table) (linesFrom (s .begun) [])
 
 -- However the input is cut into pieces, the pieces and the end print the whole output.

@@ -5,7 +5,8 @@ use mathlib.Core.List.{List, [], _∷_, _++_}
 use mathlib.Core.Option.{Option, none}
 use lib.ListN.{length}
 use lib.Dec.{eqb, leb}
-use Rattle.script.specs.Types.{Command, commandOf}
+use Rattle.command.specs.Commands.{commandOf}
+use Rattle.script.specs.Types.{Command}
 use Rattle.script.specs.Printing.{endOfLine}
 
 -- a line without the byte that ends it, or an unended last line; one of no bytes is none

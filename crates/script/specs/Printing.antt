@@ -6,14 +6,14 @@ use mathlib.Core.Option.{some, none}
 use lib.Ieee.{binary32, toBits}
 use Rattle.text.specs.Writing.{decimalText, wholeText, hexText}
 use Rattle.rendezvous.specs.Numbers.{Said, made, ticket, place, same, outcome, movers, refusal}
-use Rattle.script.specs.Types.{Message, Nothing, Whole, Reading, Limit, Command, New, Offer, Step, Collect, Movers}
+use Rattle.script.specs.Types.{Message, Offer, Step, Collect, Command, New, Do, Movers}
 
 -- "the message as a guard writes it": "`0` nothing, `w` and a decimal .., `r` and eight lower-case hexadecimal digits of the f32's bits, `l` and sixteen such digits"
 unfoldable pub messageText : Message → List ℕ
-messageText Nothing = code "0" ∷ []
-messageText (Whole x) = code "w" ∷ wholeText x
-messageText (Reading x) = code "r" ∷ hexText (toBits binary32 x)
-messageText (Limit low high) = code "l" ∷ hexText (toBits binary32 low) ++ hexText (toBits binary32 high)
+messageText Message.Nothing = code "0" ∷ []
+messageText (Message.Whole x) = code "w" ∷ wholeText x
+messageText (Message.Reading x) = code "r" ∷ hexText (toBits binary32 x)
+messageText (Message.Limit low high) = code "l" ∷ hexText (toBits binary32 low) ++ hexText (toBits binary32 high)
 
 -- "fields parted by one space": a field, and the space before it
 abbrev pub field : List ℕ → List ℕ
@@ -26,9 +26,9 @@ refusalText k = code "x" ∷ field (decimalText k)
 -- how the line of an accepted command begins: "An `n` line shows N alone", an `o`, `s` or `c` line "the party"
 abbrev pub commandText : Command → List ℕ
 commandText (New n) = code "n" ∷ field (decimalText n)
-commandText (Offer p gs) = code "o" ∷ field (decimalText p)
-commandText (Step p) = code "s" ∷ field (decimalText p)
-commandText (Collect p) = code "c" ∷ field (decimalText p)
+commandText (Do (Offer p gs)) = code "o" ∷ field (decimalText p)
+commandText (Do (Step p)) = code "s" ∷ field (decimalText p)
+commandText (Do (Collect p)) = code "c" ∷ field (decimalText p)
 commandText Movers = code "m" ∷ []
 
 -- .. and how it goes on: "`t` with the ticket"; "the place letter, with the guard index at A, T and C"; "A step without change prints `=` for the place."; "guard

@@ -2,30 +2,30 @@
 use Prim.Native.Nat.{ℕ}
 use mathlib.Core.Bool.{Bool, true, false, cond}
 use mathlib.Core.List.{List, [], _∷_, _++_}
-use mathlib.Core.Option.{Option, some, none, Option·map}
-use Rattle.rendezvous.specs.Calls.{create, offer, step, collect, runnable}
+use mathlib.Core.Option.{Option, some, none}
+use Rattle.rendezvous.specs.Calls.{create}
 use Rattle.rendezvous.specs.Numbers.{said}
-use Rattle.script.specs.Types.{ProcessTable, Answer, Made, Offered, Moved, Unchanged, Collected, Runnable, Refused, Reply, Command, New, Offer, Step, Collect, Movers}
+use Rattle.rendezvous.specs.Commands.{replyToCommand}
+use Rattle.script.specs.Types.{ProcessTable, Answer, Reply, Command, New, Do, Movers}
 use Rattle.script.specs.Printing.{commandText, refusalText, answerText, ended}
 use Rattle.script.specs.Lines.{Line, linesFrom, lineCommand}
 
 -- the reply to a command; "a command but `n` before an accepted `n`" has none
-unfoldable pub replyTo : Option ProcessTable → Command → Option Reply
-replyTo table (New n) = some (create n)
-replyTo table (Offer p gs) = Option·map (λ t. offer t p gs) table
-replyTo table (Step p) = Option·map (λ t. step t p) table
-replyTo table (Collect p) = Option·map (λ t. collect t p) table
-replyTo table Movers = Option·map runnable table
+unfoldable pub replyFrom : Option ProcessTable → Command → Option Reply
+replyFrom (some t) command = some (replyToCommand t command)
+replyFrom none (New n) = some (create n)
+replyFrom none (Do call) = none
+replyFrom none Movers = none
 
 -- the call was turned away
 abbrev pub isRefused : Answer → Bool
-isRefused (Refused refusal) = true
-isRefused Made = false
-isRefused (Offered t) = false
-isRefused (Moved place) = false
-isRefused Unchanged = false
-isRefused (Collected i q m) = false
-isRefused (Runnable set) = false
+isRefused (Answer.Refused refusal) = true
+isRefused Answer.Made = false
+isRefused (Answer.Offered t) = false
+isRefused (Answer.Moved place) = false
+isRefused Answer.Unchanged = false
+isRefused (Answer.Collected i q m) = false
+isRefused (Answer.Runnable set) = false
 
 -- What a line prints, and the table with which reading goes on: none before an accepted `n`.
 pub record Turn : Type 0 where
@@ -51,7 +51,7 @@ turnBy table command (some reply) = answered table (commandText command) reply
 -- one line's turn, by its command
 unfoldable pub turn : Option ProcessTable → Option Command → Turn
 turn table none = malformed table
-turn table (some command) = turnBy table command (replyTo table command)
+turn table (some command) = turnBy table command (replyFrom table command)
 
 -- all lines, each with the table that the one before it left
 unfoldable pub printedBy : Option ProcessTable → List Line → List ℕ

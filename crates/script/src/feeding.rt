@@ -1,35 +1,36 @@
 // The session, piece by piece. A function that takes a table copies it, and that would be most of a line's work. So the loop keeps the
-// table in its place: it tests the table, reads the records that a call looks at, and writes what the call does.
+// table in its place: it tests the table, reads the records that a call looks at, and writes what the call does. Only `n` and `m` hand
+// the table on.
 use crate::Fed;
 use crate::Session;
+use crate::acting::created;
+use crate::acting::is_movers;
 use crate::acting::line_act;
 use crate::lines::MOST_BYTES;
+use crate::lines::heard;
+use crate::lines::is_new;
 use crate::lines::is_refused;
 use crate::lines::line_command;
-use crate::lines::made_after;
-use crate::lines::ready;
 use crate::output::least;
 use crate::output::put;
 use crate::printing::malformed_line;
 use crate::printing::printed_line;
-use command::Kind;
-use process::posted_by;
-use process::process_fits;
+use rendezvous::MOST_PROCESSES;
 use rendezvous::ProcessTable;
-use rendezvous::Reply;
-use rendezvous::count_fits;
+use rendezvous::form_end;
+use rendezvous::form_more;
+use rendezvous::form_start;
 use text::Text;
 ghost use Prim.Native.Nat.{_/_, min};
 ghost use mathlib.Core.Path.{_≡_};
 ghost use mathlib.Core.List.{_++_};
 ghost use lib.ListN.{length, take, drop};
 ghost use Rattle.text.specs.Writing.{shown};
-ghost use Rattle.script.specs.Feeding.{start, stateOf, fed, finished};
-ghost use Rattle.script.specs.Private.{newReply};
+ghost use Rattle.script.specs.Feeding.{start, stateHeld, fed, finished};
 
 // A session before its first byte. The table of no process stands in for the one that is not made yet.
 pub fn start() -> Session
-    ensures { λ r. ⌜ stateOf r ≡ start ⌝ }
+    ensures { λ r. ⌜ stateHeld r ≡ start ⌝ }
 {
     let bytes = [0u8; 201];
     let reply = ProcessTable::create(0);
@@ -42,28 +43,13 @@ pub fn start() -> Session
     }
 }
 
-// The reply to `n`: a refused one keeps the old table.
-fn created(table: ProcessTable, number: u8) -> Reply
-    ensures { λ r. ⌜ r ≡ newReply table number ⌝ }
-{
-    let reply = ProcessTable::create(number);
-    let answer = reply.answer;
-    if is_refused(answer) {
-        return Reply {
-            answer: answer,
-            table: table,
-        };
-    }
-    reply
-}
-
 // Feeds a piece of the input, and writes what its lines print to the start of `out`. No line prints more than 64 bytes, so as many
 // bytes are taken as `out` has room for if each of them ends a line. The session may hold any length: past its 201 bytes it counts as 201.
 pub fn feed(session: Session, piece: &[u8], out: &mut [u8]) -> Fed
     ensures taken { λ r. ⌜ r .taken ≡ min (length (now (piece .entry))) (length (now (out .entry)) / 64) ⌝ }
-    ensures filled { λ r. ⌜ r .filled ≡ length (fed (stateOf session) (take (r .taken) (now (piece .entry))) .prints) ⌝ }
-    ensures session { λ r. ⌜ stateOf (r .session) ≡ fed (stateOf session) (take (r .taken) (now (piece .entry))) .state ⌝ }
-    ensures written { λ r. ⌜ now (out .exit) ≡ fed (stateOf session) (take (r .taken) (now (piece .entry))) .prints ++ drop (r .filled) (now (out .entry)) ⌝ }
+    ensures filled { λ r. ⌜ r .filled ≡ length (fed (stateHeld session) (take (r .taken) (now (piece .entry))) .prints) ⌝ }
+    ensures session { λ r. ⌜ stateHeld (r .session) ≡ fed (stateHeld session) (take (r .taken) (now (piece .entry))) .state ⌝ }
+    ensures written { λ r. ⌜ now (out .exit) ≡ fed (stateHeld session) (take (r .taken) (now (piece .entry))) .prints ++ drop (r .filled) (now (out .entry)) ⌝ }
 {
     let mut made = session.made;
     let mut table = session.table;
@@ -76,31 +62,27 @@ pub fn feed(session: Session, piece: &[u8], out: &mut [u8]) -> Fed
         let b = piece[i];
         i = i + 1;
         if b == b'\n' {
-            let command = line_command(&bytes[..held]);
-            let spelt = command.kind;
-            let kind = ready(made, spelt);
-            let number = command.number;
-            let list = command.list;
+            let command = heard(made, line_command(&bytes[..held]));
+            let kind = command.kind;
             // what a call reads: whether the table is well-formed, and the records of its process and of the partner
-            let n = table.n;
-            let next = table.next;
-            let mut formed = count_fits(n);
+            let head = table.head;
+            let mut form = form_start(head);
             let mut k: u8 = 0;
-            while k < n {
-                let at = (k % 32) as usize;
+            while k < head.n {
+                let at = (k % MOST_PROCESSES) as usize;
                 let z = table.processes[at];
                 let named = z.committed_to();
-                let there = (named % 32) as usize;
+                let there = (named % MOST_PROCESSES) as usize;
                 let posted = table.processes[there].altcount;
-                formed = formed & process_fits(n, k, z, posted_by(named, posted));
+                form = form_more(form, head, k, z, named, posted);
                 k = k + 1;
             }
-            let at = (number % 32) as usize;
+            let at = (command.number % MOST_PROCESSES) as usize;
             let x = table.processes[at];
             let q = x.partner();
-            let there = (q % 32) as usize;
+            let there = (q % MOST_PROCESSES) as usize;
             let y = table.processes[there];
-            let act = line_act(kind, number, list, formed, n, next, x, q, y);
+            let act = line_act(command, form_end(form, head), head, x, q, y);
             // what it does
             if act.told {
                 let partner = table.processes[there];
@@ -108,28 +90,20 @@ pub fn feed(session: Session, piece: &[u8], out: &mut [u8]) -> Fed
                 table.processes[there] = partner.told(act.accepting, signal);
             }
             let own = act.own;
-            let following = act.next;
-            table.processes[at] = own;
-            table.next = following;
+            let after = act.head;
             let mut answer = act.answer;
-            // the two commands that are about the whole table
-            match kind {
-                Kind::New => {
-                    let reply = created(table, number);
-                    answer = reply.answer;
-                    table = reply.table;
-                }
-                Kind::Movers => {
-                    let reply = table.runnable();
-                    answer = reply.answer;
-                }
-                Kind::Malformed => {}
-                Kind::Offer => {}
-                Kind::Step => {}
-                Kind::Collect => {}
+            table.processes[at] = own;
+            table.head = after;
+            if is_new(kind) {
+                let reply = created(table, command.number);
+                answer = reply.answer;
+                table = reply.table;
+                made = made | !is_refused(answer);
+            } else if is_movers(kind) {
+                let reply = table.runnable();
+                answer = reply.answer;
             }
-            filled = put(out, filled, printed_line(kind, number, answer));
-            made = made_after(made, kind, answer);
+            filled = put(out, filled, printed_line(kind, command.number, answer));
             held = 0;
         } else if held <= MOST_BYTES {
             bytes[held] = b;
@@ -150,7 +124,7 @@ pub fn feed(session: Session, piece: &[u8], out: &mut [u8]) -> Fed
 
 // What the end of the input prints: an unended last line is malformed.
 pub fn finish(session: Session) -> Text
-    ensures { λ r. ⌜ shown r ≡ finished (stateOf session) ⌝ }
+    ensures { λ r. ⌜ shown r ≡ finished (stateHeld session) ⌝ }
 {
     if session.length == 0 {
         return Text::empty();

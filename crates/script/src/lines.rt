@@ -1,61 +1,51 @@
 // The command of a line.
-use alternative::GuardList;
-use alternative::blank_guard;
 use command::Kind;
 use command::Parsed;
 use command::parse;
+use command::plain_command;
 use rendezvous::Answer;
 ghost use mathlib.Core.Path.{_≡_};
-ghost use mathlib.Core.Option.{none};
-ghost use Rattle.command.specs.Form.{asParsed};
+ghost use Rattle.command.specs.InCode.{asParsed};
 ghost use Rattle.script.specs.Lines.{Line, lineCommand};
 ghost use Rattle.script.specs.Session.{isRefused};
-ghost use Rattle.script.specs.Private.{readyKind, madeAfter};
+ghost use Rattle.script.specs.Private.{isNew, heard};
 
 // The most bytes that a line may have.
 pub const MOST_BYTES: usize = 200;
-
-fn malformed() -> Parsed
-    ensures { λ r. ⌜ r ≡ asParsed none ⌝ }
-{
-    let blank = blank_guard();
-    let guards = [blank; 8];
-    let list = GuardList {
-        count: 0,
-        guards: guards,
-    };
-    Parsed {
-        kind: Kind::Malformed,
-        number: 0,
-        list: list,
-    }
-}
 
 // The command of a line that has ended.
 pub fn line_command(line: &[u8]) -> Parsed
     ensures { λ r. ⌜ r ≡ asParsed (lineCommand (Line.Ended (now (line .entry)))) ⌝ }
 {
     if MOST_BYTES < line.len() {
-        return malformed();
+        return plain_command(Kind::Malformed, 0);
     }
     parse(line)
 }
 
-// A command as it counts: before a table was made, all but `n` are malformed.
-pub fn ready(made: bool, kind: Kind) -> Kind
-    ensures { λ r. ⌜ r ≡ readyKind made kind ⌝ }
+// Whether a command makes a table.
+pub fn is_new(kind: Kind) -> bool
+    ensures { λ r. ⌜ r ≡ isNew kind ⌝ }
 {
-    if made {
-        return kind;
-    }
     match kind {
-        Kind::New => Kind::New,
-        Kind::Malformed => Kind::Malformed,
-        Kind::Offer => Kind::Malformed,
-        Kind::Step => Kind::Malformed,
-        Kind::Collect => Kind::Malformed,
-        Kind::Movers => Kind::Malformed,
+        Kind::New => true,
+        Kind::Malformed => false,
+        Kind::Offer => false,
+        Kind::Step => false,
+        Kind::Collect => false,
+        Kind::Movers => false,
     }
+}
+
+// A command as it counts: before a table was made, all but `n` are malformed.
+pub fn heard(made: bool, command: Parsed) -> Parsed
+    ensures { λ r. ⌜ r ≡ heard made command ⌝ }
+{
+    let kind = command.kind;
+    if made | is_new(kind) {
+        return command;
+    }
+    plain_command(Kind::Malformed, 0)
 }
 
 // Whether a call was turned away.
@@ -70,19 +60,5 @@ pub fn is_refused(answer: Answer) -> bool
         Answer::Unchanged => false,
         Answer::Collected(_, _, _) => false,
         Answer::Runnable(_) => false,
-    }
-}
-
-// Whether a table was made, after a command and its answer: an accepted `n` makes one.
-pub fn made_after(made: bool, kind: Kind, answer: Answer) -> bool
-    ensures { λ r. ⌜ r ≡ madeAfter made kind answer ⌝ }
-{
-    match kind {
-        Kind::New => made | !is_refused(answer),
-        Kind::Malformed => made,
-        Kind::Offer => made,
-        Kind::Step => made,
-        Kind::Collect => made,
-        Kind::Movers => made,
     }
 }

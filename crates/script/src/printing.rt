@@ -8,7 +8,7 @@ use rendezvous::Answer;
 use text::Text;
 ghost use mathlib.Core.Path.{_≡_};
 ghost use mathlib.Core.List.{_∷_, _++_};
-ghost use Rattle.text.specs.Writing.{shown, kept, decimalText};
+ghost use Rattle.text.specs.Writing.{shown, capped, decimalText};
 ghost use Rattle.process.specs.Process.{letterOf, indexOf};
 ghost use Rattle.rendezvous.specs.Numbers.{Said, said};
 ghost use Rattle.script.specs.Printing.{messageText, field, refusalText, answerText, ended};
@@ -16,7 +16,7 @@ ghost use Rattle.script.specs.Private.{lineText};
 
 // A message as a guard writes it.
 fn message_text(text: Text, m: Message) -> Text
-    ensures { λ r. ⌜ shown r ≡ kept (shown text ++ messageText m) ⌝ }
+    ensures { λ r. ⌜ shown r ≡ capped (shown text ++ messageText m) ⌝ }
 {
     match m {
         Message::Nothing => text.byte(b'0'),
@@ -27,7 +27,7 @@ fn message_text(text: Text, m: Message) -> Text
 }
 
 fn place_text(command: Text, place: Place) -> Text
-    ensures { λ r. ⌜ shown r ≡ kept (answerText (shown command) (Said.place (letterOf place) (indexOf place))) ⌝ }
+    ensures { λ r. ⌜ shown r ≡ capped (answerText (shown command) (Said.place (letterOf place) (indexOf place))) ⌝ }
 {
     let text = command.byte(b' ').byte(place.letter());
     match place.index() {
@@ -37,13 +37,13 @@ fn place_text(command: Text, place: Place) -> Text
 }
 
 fn refusal_text(number: u8) -> Text
-    ensures { λ r. ⌜ shown r ≡ kept (refusalText number) ⌝ }
+    ensures { λ r. ⌜ shown r ≡ capped (refusalText number) ⌝ }
 {
     Text::empty().byte(b'x').byte(b' ').decimal(number as u32)
 }
 
 fn outcome_text(command: Text, index: u8, partner: u8, m: Message) -> Text
-    ensures { λ r. ⌜ shown r ≡ kept (answerText (shown command) (Said.outcome index partner m)) ⌝ }
+    ensures { λ r. ⌜ shown r ≡ capped (answerText (shown command) (Said.outcome index partner m)) ⌝ }
 {
     let guard = command.byte(b' ').decimal(index as u32);
     let named = guard.byte(b' ').decimal(partner as u32);
@@ -51,7 +51,7 @@ fn outcome_text(command: Text, index: u8, partner: u8, m: Message) -> Text
 }
 
 fn answer_text(command: Text, answer: Answer) -> Text
-    ensures { λ r. ⌜ shown r ≡ kept (answerText (shown command) (said answer)) ⌝ }
+    ensures { λ r. ⌜ shown r ≡ capped (answerText (shown command) (said answer)) ⌝ }
 {
     match answer {
         Answer::Made => command,
@@ -80,7 +80,7 @@ pub fn malformed_line() -> Text
 
 // The line of a command and its answer.
 fn answer_line(command: Text, answer: Answer) -> Text
-    ensures { λ r. ⌜ shown r ≡ kept (ended (answerText (shown command) (said answer))) ⌝ }
+    ensures { λ r. ⌜ shown r ≡ capped (ended (answerText (shown command) (said answer))) ⌝ }
 {
     answer_text(command, answer).byte(b'\n')
 }

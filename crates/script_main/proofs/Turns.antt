@@ -1,6 +1,6 @@
 -- One turn of the loop, and the turns so far.
 use Prim.Native.Nat.{ℕ, zero, suc, _+_, _-_, _≤_, _<_}
-use mathlib.Core.Path.{_≡_, refl, sym, _∙_, ap, subst}
+use mathlib.Core.Path.{_≡_, refl, sym, _∙_, subst}
 use mathlib.Core.Bool.{Bool, true, false, cond}
 use mathlib.Core.List.{List, [], _∷_, _++_, append-assoc, append-nil}
 use native.Mathlib.Omega.{arith}
@@ -14,7 +14,7 @@ use mir.Val.{ofZ, toZ}
 use mir.Facts.{toZ-ofZ}
 use Rattle.io.specs.Counts.{clamped}
 use Rattle.libc.specs.Io.{Moved}
-use Rattle.script.specs.Feeding.{State, stateOf, fed, fedPieces}
+use Rattle.script.specs.Feeding.{SessionState, stateHeld, fed, fedPieces}
 use Rattle.script_main.specs.declared.Status.the-variants.{Going, Ended, Unreadable, Endless}
 use Rattle.script_main.specs.declared.Progress.{Progress}
 use Rattle.script_main.specs.Turns.{Turn, count, pieceOf, afterRead, afterWrite, isGoing, statusOf, pieces, statusAfter, AllTurns}
@@ -55,11 +55,11 @@ counted t = go (t .got)
     go (pos n) = take-most n (t .buffer)
     go (negsuc n) = refl
 
-pub counted-fed : (s : State) (t : Turn) (n : ℕ) → n ≡ clamped (t .got) (length (t .buffer)) → fed s (take n (t .buffer)) .state ≡ fed s (pieceOf t) .state
+pub counted-fed : (s : SessionState) (t : Turn) (n : ℕ) → n ≡ clamped (t .got) (length (t .buffer)) → fed s (take n (t .buffer)) .state ≡ fed s (pieceOf t) .state
 counted-fed s t n e = rw (e, counted t)
 
 -- a turn whose read does not go on feeds nothing
-pub turn-stops : (s : State) (t : Turn) → isGoing (afterRead (t .got)) ≡ false → (afterRead (t .got) ≡ statusOf t) × (s ≡ fed s (pieceOf t) .state)
+pub turn-stops : (s : SessionState) (t : Turn) → isGoing (afterRead (t .got)) ≡ false → (afterRead (t .got) ≡ statusOf t) × (s ≡ fed s (pieceOf t) .state)
 unfolding statusOf pieceOf afterRead fed
 turn-stops s t e = (rw e, go (t .got) e)
   where
@@ -85,13 +85,13 @@ not-endless t = go (t .got) (t .written)
     go (negsuc n) written e = let z : _≡_ {A = ℕ} 0 1 = cc in omega arith
 
 -- The turns so far, after which `left` more may follow: whatever follows them, goes on from here.
-pub record SoFar (s here : State) (left : ℕ) : Type 0 where
+pub record SoFar (s here : SessionState) (left : ℕ) : Type 0 where
   pub turns : List Turn
   pub counted : length turns + left ≡ 18446744073709551615
   pub status : (ts : List Turn) → statusAfter (turns ++ ts) ≡ statusAfter ts
   pub state : (ts : List Turn) → fedPieces s (pieces (turns ++ ts)) .state ≡ fedPieces here (pieces ts) .state
 
-pub none-yet : (s : State) → SoFar s s 18446744073709551615
+pub none-yet : (s : SessionState) → SoFar s s 18446744073709551615
 none-yet s = record { turns = []; counted = refl; status = λ ts. refl; state = λ ts. refl }
 
 -- what a turn adds, by whether it goes on
@@ -103,17 +103,17 @@ status-stops : (t : Turn) (ts : List Turn) → isGoing (statusOf t) ≡ false �
 unfolding statusAfter
 status-stops t ts e = rw e
 
-state-goes : (s : State) (t : Turn) (ts : List Turn) → isGoing (statusOf t) ≡ true
+state-goes : (s : SessionState) (t : Turn) (ts : List Turn) → isGoing (statusOf t) ≡ true
     → fedPieces s (pieces (t ∷ ts)) .state ≡ fedPieces (fed s (pieceOf t) .state) (pieces ts) .state
 unfolding pieces fedPieces
 state-goes s t ts e = rw e
 
-state-stops : (s : State) (t : Turn) (ts : List Turn) → isGoing (statusOf t) ≡ false → fedPieces s (pieces (t ∷ ts)) .state ≡ fed s (pieceOf t) .state
+state-stops : (s : SessionState) (t : Turn) (ts : List Turn) → isGoing (statusOf t) ≡ false → fedPieces s (pieces (t ∷ ts)) .state ≡ fed s (pieceOf t) .state
 unfolding pieces fedPieces
 state-stops s t ts e = rw e
 
-module _ (s here : State) (left : ℕ) (so-far : SoFar s here left) where
-  pub one-more : (t : Turn) (after : State) → isGoing (statusOf t) ≡ true → after ≡ fed here (pieceOf t) .state → 0 < left → SoFar s after (left - 1)
+module _ (s here : SessionState) (left : ℕ) (so-far : SoFar s here left) where
+  pub one-more : (t : Turn) (after : SessionState) → isGoing (statusOf t) ≡ true → after ≡ fed here (pieceOf t) .state → 0 < left → SoFar s after (left - 1)
   one-more t after e a h = record {
     turns = so-far .turns ++ t ∷ [];
     counted = rw length-append (omega (arith, so-far .counted));
@@ -121,7 +121,7 @@ module _ (s here : State) (left : ℕ) (so-far : SoFar s here left) where
     state = λ ts. rw (append-assoc, a) (so-far .state (t ∷ ts) ∙ state-goes here t ts e);
   }
 
-  pub stopped : (r : Progress) (t : Turn) → isGoing (r .status) ≡ false → r .status ≡ statusOf t → stateOf (r .session) ≡ fed here (pieceOf t) .state → AllTurns s r
+  pub stopped : (r : Progress) (t : Turn) → isGoing (r .status) ≡ false → r .status ≡ statusOf t → stateHeld (r .session) ≡ fed here (pieceOf t) .state → AllTurns s r
   stopped r t e p a =
       let g : isGoing (statusOf t) ≡ false = rw p at e in (
         so-far .turns ++ t ∷ [],
@@ -130,7 +130,7 @@ module _ (s here : State) (left : ℕ) (so-far : SoFar s here left) where
         λ q. absurd (not-endless t (sym p ∙ q)),
       )
 
-  pub used-up : (r : Progress) → r .status ≡ Endless → stateOf (r .session) ≡ here → left ≤ 0 → AllTurns s r
+  pub used-up : (r : Progress) → r .status ≡ Endless → stateHeld (r .session) ≡ here → left ≤ 0 → AllTurns s r
   unfolding statusAfter pieces fedPieces
   used-up r p a h = (
     so-far .turns ++ [],

@@ -7,9 +7,9 @@ use mathlib.Core.Bool.{Bool, true, false, cond}
 use mathlib.Core.List.{List, [], _∷_}
 use lib.IntN.{ℤ, pos, negsuc}
 use lib.ListN.{length, take}
-use Rattle.libc.specs.Io.{Moved}
 use Rattle.text.specs.Ascii.{bytes}
-use Rattle.script.specs.Feeding.{State, stateOf, fed, fedPieces}
+use Rattle.libc.specs.Io.{Moved}
+use Rattle.script.specs.Feeding.{SessionState, stateHeld, fed, fedPieces}
 use Rattle.script_main.specs.declared.Status.{Status}
 use Rattle.script_main.specs.declared.Status.the-variants.{Going, Ended, Unreadable, Unwritable, Endless}
 use Rattle.script_main.specs.declared.Progress.{Progress}
@@ -67,13 +67,13 @@ statusAfter [] = Endless
 statusAfter (t ∷ ts) = cond (isGoing (statusOf t)) (statusAfter ts) (statusOf t)
 
 -- One turn, which left this buffer, brings the program from a state to here.
-abbrev pub OneTurn : State → List ℕ → Progress → Type 0
-OneTurn s buffer here = (t : Turn) × (t .buffer ≡ buffer) × (here .status ≡ statusOf t) × (stateOf (here .session) ≡ fed s (pieceOf t) .state)
+abbrev pub OneTurn : SessionState → List ℕ → Progress → Type 0
+OneTurn s buffer here = (t : Turn) × (t .buffer ≡ buffer) × (here .status ≡ statusOf t) × (stateHeld (here .session) ≡ fed s (pieceOf t) .state)
 
 -- Turns bring it from a state to here. Too many are no fewer than 64 bits can count.
-abbrev pub AllTurns : State → Progress → Type 0
+abbrev pub AllTurns : SessionState → Progress → Type 0
 AllTurns s here =
-    (ts : List Turn) × (here .status ≡ statusAfter ts) × (stateOf (here .session) ≡ fedPieces s (pieces ts) .state)
+    (ts : List Turn) × (here .status ≡ statusAfter ts) × (stateHeld (here .session) ≡ fedPieces s (pieces ts) .state)
     × (here .status ≡ Endless → length ts ≡ 18446744073709551615)
 
 -- The last status: where the input has ended, by the write of what the end prints.

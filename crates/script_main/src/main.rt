@@ -12,7 +12,7 @@ ghost use Prim.Native.Nat.{_*_, _≤_};
 ghost use mathlib.Core.Path.{_≡_};
 ghost use mathlib.Core.Bool.{true};
 ghost use lib.ListN.{length, take};
-ghost use Rattle.script.specs.Feeding.{stateOf, fed, finished};
+ghost use Rattle.script.specs.Feeding.{stateHeld, fed, finished};
 ghost use Rattle.script_main.specs.Turns.{isEnded, OneTurn, AllTurns, AtEnd, sentenceOf};
 
 mod answers;
@@ -46,8 +46,8 @@ fn output_buffer() -> [u8; 262144]
 // Feeds all of a piece, where the output has room for what it prints.
 fn feed_all(session: Session, piece: &[u8], output: &mut [u8]) -> Fed
     requires { ⌜ 64 * length (now piece) ≤ length (now output) ⌝ }
-    ensures session { λ r. ⌜ stateOf (r .session) ≡ fed (stateOf session) (now (piece .entry)) .state ⌝ }
-    ensures written { λ r. ⌜ take (r .filled) (now (output .exit)) ≡ fed (stateOf session) (now (piece .entry)) .prints ⌝ }
+    ensures session { λ r. ⌜ stateHeld (r .session) ≡ fed (stateHeld session) (now (piece .entry)) .state ⌝ }
+    ensures written { λ r. ⌜ take (r .filled) (now (output .exit)) ≡ fed (stateHeld session) (now (piece .entry)) .prints ⌝ }
     ensures room { λ r. ⌜ r .filled ≤ length (now (output .exit)) ⌝ }
 {
     script::feed(session, piece, output)
@@ -55,7 +55,7 @@ fn feed_all(session: Session, piece: &[u8], output: &mut [u8]) -> Fed
 
 // Writes what a piece prints to a session, and nothing else.
 fn write_printed(session: Session, piece: &[u8], printed: &[u8]) -> bool
-    requires { ⌜ now printed ≡ fed (stateOf session) (now piece) .prints ⌝ }
+    requires { ⌜ now printed ≡ fed (stateHeld session) (now piece) .prints ⌝ }
 {
     io::write_all(STDOUT_FILENO, printed)
 }
@@ -63,7 +63,7 @@ fn write_printed(session: Session, piece: &[u8], printed: &[u8]) -> bool
 // Writes what the end of the input prints, where it has ended, and nothing else.
 fn write_finished(last: Progress, printed: &[u8]) -> bool
     requires ended { ⌜ isEnded (last .status) ≡ true ⌝ }
-    requires { ⌜ now printed ≡ finished (stateOf (last .session)) ⌝ }
+    requires { ⌜ now printed ≡ finished (stateHeld (last .session)) ⌝ }
 {
     io::write_all(STDOUT_FILENO, printed)
 }
@@ -78,7 +78,7 @@ fn write_sentence(status: Status, sentence: &[u8])
 // One read, and what it makes the session print.
 fn read_once(session: Session, input: &mut [u8], output: &mut [u8]) -> Progress
     requires { ⌜ 64 * length (now input) ≤ length (now output) ⌝ }
-    ensures { λ r. ⌜ OneTurn (stateOf session) (now (input .exit)) r ⌝ }
+    ensures { λ r. ⌜ OneTurn (stateHeld session) (now (input .exit)) r ⌝ }
 {
     let got = libc::read(STDIN_FILENO, input);
     let status = after_read(got);
@@ -103,7 +103,7 @@ fn read_once(session: Session, input: &mut [u8], output: &mut [u8]) -> Progress
 // Reads to the end of the input, or to the first failure. The count of reads falls, so that the loop ends; no input has as many.
 fn read_all(session: Session, input: &mut [u8], output: &mut [u8]) -> Progress
     requires { ⌜ 64 * length (now input) ≤ length (now output) ⌝ }
-    ensures { λ r. ⌜ AllTurns (stateOf session) r ⌝ }
+    ensures { λ r. ⌜ AllTurns (stateHeld session) r ⌝ }
 {
     let mut now = session;
     let mut left: u64 = 18446744073709551615;

@@ -1,4 +1,4 @@
-pub mod Kept
+pub mod Capped
 pub mod Decimals
 pub mod Hexadecimals
 pub mod Integers

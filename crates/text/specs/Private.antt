@@ -1,4 +1,4 @@
--- Not to be believed: forms that inner contracts cite; no contract of a public function does.
+-- Not to be believed: what inner contracts cite; no contract of a public function does.
 use Prim.Native.Nat.{ℕ}
 use mathlib.Core.Bool.{_&&_}
 use mathlib.Core.Option.{Option}

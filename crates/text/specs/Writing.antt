@@ -14,8 +14,8 @@ unfoldable pub shown : Text → List ℕ
 shown t = take (t .length) (t .bytes)
 
 -- what a text keeps of a list of bytes: the first 64
-unfoldable pub kept : List ℕ → List ℕ
-kept bs = take 64 bs
+unfoldable pub capped : List ℕ → List ℕ
+capped bs = take 64 bs
 
 -- n in decimal without leading zeros; k is one less than the most digits that are written
 unfoldable pub decimalUpTo : ℕ → ℕ → List ℕ

@@ -4,7 +4,7 @@ use crate::signs::magnitude;
 ghost use mathlib.Core.Path.{_≡_};
 ghost use mathlib.Core.List.{[], _∷_, _++_};
 ghost use Prim.Native.Nat.{_<_};
-ghost use Rattle.text.specs.Writing.{decimalUpTo, decimalText, wholeText, hexGlyph, hexUpTo, hexText, shown, kept};
+ghost use Rattle.text.specs.Writing.{decimalUpTo, decimalText, wholeText, hexGlyph, hexUpTo, hexText, shown, capped};
 
 // The digit of a value below 16; below 10 it is the decimal digit as well.
 fn glyph(d: u32) -> u8
@@ -30,7 +30,7 @@ impl Text {
     }
 
     pub fn byte(mut self, b: u8) -> Text
-        ensures { λ r. ⌜ shown r ≡ kept (shown self ++ b ∷ []) ⌝ }
+        ensures { λ r. ⌜ shown r ≡ capped (shown self ++ b ∷ []) ⌝ }
     {
         let at = self.length;
         if at < 64 {
@@ -42,7 +42,7 @@ impl Text {
 
     // At most k + 1 decimal digits.
     fn decimal_up_to(self, k: u32, n: u32) -> Text
-        ensures { λ r. ⌜ shown r ≡ kept (shown self ++ decimalUpTo k n) ⌝ }
+        ensures { λ r. ⌜ shown r ≡ capped (shown self ++ decimalUpTo k n) ⌝ }
     {
         if k == 0 {
             return self.byte(glyph(n % 10));
@@ -55,13 +55,13 @@ impl Text {
     }
 
     pub fn decimal(self, n: u32) -> Text
-        ensures { λ r. ⌜ shown r ≡ kept (shown self ++ decimalText n) ⌝ }
+        ensures { λ r. ⌜ shown r ≡ capped (shown self ++ decimalText n) ⌝ }
     {
         self.decimal_up_to(9, n)
     }
 
     pub fn whole(self, x: i32) -> Text
-        ensures { λ r. ⌜ shown r ≡ kept (shown self ++ wholeText x) ⌝ }
+        ensures { λ r. ⌜ shown r ≡ capped (shown self ++ wholeText x) ⌝ }
     {
         let n = magnitude(x);
         if x < 0 {
@@ -74,7 +74,7 @@ impl Text {
 
     // The last `digits` hexadecimal digits.
     fn hex_up_to(self, digits: u32, n: u32) -> Text
-        ensures { λ r. ⌜ shown r ≡ kept (shown self ++ hexUpTo digits n) ⌝ }
+        ensures { λ r. ⌜ shown r ≡ capped (shown self ++ hexUpTo digits n) ⌝ }
     {
         if digits == 0 {
             return self;
@@ -84,7 +84,7 @@ impl Text {
     }
 
     pub fn hex(self, n: u32) -> Text
-        ensures { λ r. ⌜ shown r ≡ kept (shown self ++ hexText n) ⌝ }
+        ensures { λ r. ⌜ shown r ≡ capped (shown self ++ hexText n) ⌝ }
     {
         self.hex_up_to(8, n)
     }

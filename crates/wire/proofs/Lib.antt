@@ -1,6 +1,6 @@
 pub mod Back
 pub mod Integers
-pub mod Kept
+pub mod Owned
 pub mod Lengths
 pub mod Lists
 pub mod Offers

@@ -1,69 +1,52 @@
--- A record and a table, written part by part.
-use Prim.Native.Nat.{ℕ, _+_, _≤_}
-use mathlib.Core.Path.{_≡_, refl, sym, _∙_}
-use mathlib.Core.List.{List, [], _∷_, _++_}
-use native.Mathlib.Omega.{arith}
-use lib.ListN.{length, drop, length-append}
-use lib.Seq.{sets}
-use Rattle.wire.specs.Types.{Process, ProcessTable}
-use Rattle.wire.specs.Writing.{flag, wordBytes, placeBytes, signalBytes, guardsBytes, eachBytes, processBytes, bytesOf}
-use Rattle.wire.proofs.Lengths.{word-length, place-length, signal-length}
+-- Parts that stand one behind another, each written behind the one before it, and read from where it stands.
+use Prim.Native.Nat.{ℕ, zero, suc, _+_, _≤_}
+use mathlib.Core.Path.{_≡_, refl, ap, _∙_}
+use mathlib.Core.List.{List, [], _∷_, _++_, flatten, append-assoc}
+use lib.ListN.{length, take, drop, length-append}
+use lib.Seq.{sets, drop-append-add}
 use Rattle.wire.proofs.Lists.{sets-join, sets-front, sets-whole}
 
--- a record up to its byte 23, 27, 30 and 126
-abbrev three : Process → List ℕ
-three x = flag (x .accepting) ∷ x .count ∷ x .altcount ∷ []
+-- how long they are together
+abbrev pub total : List (List ℕ) → ℕ
+total [] = 0
+total (part ∷ parts) = length part + total parts
 
-abbrev to23 : Process → List ℕ
-to23 x = placeBytes (x .place) ++ signalBytes (x .signal)
+-- parts, and the rest behind them
+abbrev pub followed : List (List ℕ) → List ℕ → List ℕ
+followed [] rest = rest
+followed (part ∷ parts) rest = part ++ followed parts rest
 
-abbrev to27 : Process → List ℕ
-to27 x = to23 x ++ wordBytes (x .transaction .0)
+-- parts, written from byte k on
+abbrev pub laid : List (List ℕ) → List ℕ → ℕ → List ℕ
+laid [] l k = l
+laid (part ∷ parts) l k = laid parts (sets l k part) (k + length part)
 
-abbrev to30 : Process → List ℕ
-to30 x = to27 x ++ three x
+pub total-is : (parts : List (List ℕ)) → length (flatten parts) ≡ total parts
+unfolding flatten
+total-is [] = refl
+total-is (part ∷ parts) = length-append part (flatten parts) ∙ ap (λ (n : ℕ). length part + n) (total-is parts)
 
-abbrev to126 : Process → List ℕ
-to126 x = to30 x ++ guardsBytes (x .guards)
+followed-is : (parts : List (List ℕ)) (rest : List ℕ) → flatten parts ++ rest ≡ followed parts rest
+unfolding flatten
+followed-is [] rest = refl
+followed-is (part ∷ parts) rest = append-assoc part (flatten parts) rest ∙ ap (λ (r : List ℕ). part ++ r) (followed-is parts rest)
 
-module _ (x : Process) where
-  is23 : 0 + length (to23 x) ≡ 23
-  is23 = omega (arith, length-append (placeBytes (x .place)) (signalBytes (x .signal)), place-length (x .place), signal-length (x .signal))
+laid-is : (parts : List (List ℕ)) (l : List ℕ) (k : ℕ) → laid parts l k ≡ sets l k (flatten parts)
+unfolding flatten
+laid-is [] l k = refl
+laid-is (part ∷ parts) l k = laid-is parts (sets l k part) (k + length part) ∙ sets-join l k part (flatten parts) (k + length part) refl
 
-  is27 : 0 + length (to27 x) ≡ 27
-  is27 = omega (arith, length-append (to23 x) (wordBytes (x .transaction .0)), is23, word-length (x .transaction .0))
+pub laid-front : (parts : List (List ℕ)) (l : List ℕ) (n : ℕ) → total parts ≡ n → n ≤ length l → laid parts l 0 ≡ flatten parts ++ drop n l
+laid-front parts l n e h = laid-is parts l 0 ∙ sets-front l (flatten parts) n (total-is parts ∙ e) h
 
-  is30 : 0 + length (to30 x) ≡ 30
-  is30 = omega (arith, length-append (to27 x) (three x), is27)
+pub laid-whole : (parts : List (List ℕ)) (l : List ℕ) → total parts ≡ length l → laid parts l 0 ≡ flatten parts
+laid-whole parts l e = laid-is parts l 0 ∙ sets-whole l (flatten parts) (total-is parts ∙ e)
 
-  is126 : length (guardsBytes (x .guards)) ≡ 96 → 0 + length (to126 x) ≡ 126
-  is126 own = omega (arith, length-append (to30 x) (guardsBytes (x .guards)), is30)
+-- past the first k parts
+past : (parts : List (List ℕ)) (k : ℕ) (rest : List ℕ) → drop (total (take k parts)) (followed parts rest) ≡ followed (drop k parts) rest
+past parts zero rest = refl
+past [] (suc k) rest = refl
+past (part ∷ parts) (suc k) rest = drop-append-add part (followed parts rest) (total (take k parts)) ∙ past parts k rest
 
-  pub process-length : length (guardsBytes (x .guards)) ≡ 96 → length (guardsBytes (x .altlist)) ≡ 96 → length (processBytes x) ≡ 222
-  unfolding processBytes
-  process-length own posted = omega (arith, length-append (to126 x) (guardsBytes (x .altlist)), is126 own)
-
-  pub process-laid : (l : List ℕ) → length l ≡ 222 → length (guardsBytes (x .guards)) ≡ 96 → length (guardsBytes (x .altlist)) ≡ 96
-      → sets (sets (sets (sets (sets (sets l 0 (placeBytes (x .place))) 12 (signalBytes (x .signal))) 23 (wordBytes (x .transaction .0))) 27 (three x)) 30 (guardsBytes (x .guards))) 126 (guardsBytes (x .altlist)) ≡ processBytes x
-  unfolding processBytes
-  process-laid l n own posted =
-      rw (sets-join l 0 (placeBytes (x .place)) (signalBytes (x .signal)) 12 (omega (arith, place-length (x .place))), sets-join l 0 (to23 x) (wordBytes (x .transaction .0)) 23 is23, sets-join l 0 (to27 x) (three x) 27 is27, sets-join l 0 (to30 x) (guardsBytes (x .guards)) 30 is30, sets-join l 0 (to126 x) (guardsBytes (x .altlist)) 126 (is126 own))
-      (sets-whole l (processBytes x) (process-length own posted ∙ sym n))
-
-module _ (t : ProcessTable) where
-  abbrev head : List ℕ
-  head = t .n ∷ wordBytes (t .next .0)
-
-  abbrev records : List ℕ
-  records = eachBytes processBytes (t .processes)
-
-  pub table-length : length records ≡ 7104 → length (bytesOf t) ≡ 7109
-  unfolding bytesOf
-  table-length e = omega (arith, length-append head records, word-length (t .next .0))
-
-  pub table-laid : (l : List ℕ) → 7109 ≤ length l → length records ≡ 7104
-      → sets (sets (sets l 0 (t .n ∷ [])) 1 (wordBytes (t .next .0))) 5 records ≡ bytesOf t ++ drop 7109 l
-  unfolding bytesOf
-  table-laid l h e =
-      let start : 0 + length head ≡ 5 = omega (arith, word-length (t .next .0)) in
-      rw (sets-join l 0 (t .n ∷ []) (wordBytes (t .next .0)) 1 refl, sets-join l 0 head records 5 start) (sets-front l (bytesOf t) 7109 (table-length e) h)
+pub from-part : (parts : List (List ℕ)) (k n : ℕ) (rest : List ℕ) → total (take k parts) ≡ n → drop n (flatten parts ++ rest) ≡ followed (drop k parts) rest
+from-part parts k n rest e = rw (followed-is parts rest, ← e) (past parts k rest)

@@ -2,16 +2,12 @@
 pub use Prim.Native.Nat.{ℕ, zero, suc, _+_, _*_, _/_, _%_, _^_, _<_}
 pub use mathlib.Core.Path.{_≡_}
 pub use mathlib.Core.Bool.{Bool, not, cond}
-pub use mathlib.Core.List.{List, [], _∷_, _++_}
+pub use mathlib.Core.List.{List, [], _∷_, _++_, flatten}
 pub use lib.ListN.{length, getD, drop}
 pub use lib.Dec.{T, eqb, leb}
 pub use lib.Ieee.{Float, binary32, ofBits, toBits}
 pub use mir.Syntax.{w32}
 pub use mir.Val.{toZ, ofZ, SFits}
 pub use Rattle.alternative.specs.declared.{Message.Message, Action.Action, Guard.Guard}
-pub use Rattle.alternative.specs.declared.Message.the-variants.{Nothing, Whole, Reading, Limit}
-pub use Rattle.alternative.specs.declared.Action.the-variants.{Receive, Send}
 pub use Rattle.process.specs.declared.{Signal.Signal, Place.Place, Process.Process}
-pub use Rattle.process.specs.declared.Signal.the-variants.{Absent, Present}
-pub use Rattle.process.specs.declared.Place.the-variants.{Idle, Entering, Scanning, Trying, Committed, Posting, Opening, Showing, Asleep, Waiting, Met}
-pub use Rattle.rendezvous.specs.declared.{ProcessTable.ProcessTable}
+pub use Rattle.rendezvous.specs.declared.{Head.Head, ProcessTable.ProcessTable}

@@ -1,4 +1,5 @@
 // Bytes and words of a slice.
+use crate::layout::WORD_BYTES;
 ghost use mathlib.Core.Path.{_≡_};
 ghost use lib.ListN.{getD, drop};
 ghost use lib.Seq.{sets};
@@ -40,7 +41,7 @@ pub fn word_of(bytes: &[u8]) -> u32
     a + 256 * b + 65536 * c + 16777216 * d
 }
 
-pub fn word_bytes(x: u32) -> [u8; 4]
+pub fn word_bytes(x: u32) -> [u8; WORD_BYTES]
     ensures { λ r. ⌜ r ≡ wordBytes x ⌝ }
 {
     [

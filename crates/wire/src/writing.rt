@@ -1,6 +1,7 @@
 // The bytes of what a table holds.
 use crate::bytes::put_bytes;
 use crate::bytes::word_bytes;
+use crate::layout;
 use crate::wholes::bits_of_whole;
 use alternative::Action;
 use alternative::Guard;
@@ -9,9 +10,10 @@ use alternative::bits_of;
 use process::Place;
 use process::Process;
 use process::Signal;
+use rendezvous::Head;
 ghost use mathlib.Core.Path.{_≡_};
 ghost use mathlib.Core.List.{_∷_, _++_};
-ghost use Rattle.wire.specs.Writing.{flag, wordBytes, messageBytes, guardBytes, placeBytes, signalBytes, guardsBytes, processBytes};
+ghost use Rattle.wire.specs.Writing.{flag, wordBytes, messageBytes, guardBytes, placeBytes, signalBytes, guardsBytes, processBytes, headBytes};
 
 pub fn flag_byte(b: bool) -> u8
     ensures { λ r. ⌜ r ≡ flag b ⌝ }
@@ -19,7 +21,7 @@ pub fn flag_byte(b: bool) -> u8
     if b { 1 } else { 0 }
 }
 
-fn tag_and_words(tag: u8, first: u32, second: u32) -> [u8; 9]
+fn tag_and_words(tag: u8, first: u32, second: u32) -> [u8; layout::MESSAGE_BYTES]
     ensures { λ r. ⌜ r ≡ tag ∷ wordBytes first ++ wordBytes second ⌝ }
 {
     let a = word_bytes(first);
@@ -27,7 +29,7 @@ fn tag_and_words(tag: u8, first: u32, second: u32) -> [u8; 9]
     [tag, a[0], a[1], a[2], a[3], b[0], b[1], b[2], b[3]]
 }
 
-pub fn message_bytes(m: Message) -> [u8; 9]
+pub fn message_bytes(m: Message) -> [u8; layout::MESSAGE_BYTES]
     ensures { λ r. ⌜ r ≡ messageBytes m ⌝ }
 {
     match m {
@@ -39,27 +41,18 @@ pub fn message_bytes(m: Message) -> [u8; 9]
 }
 
 // Three bytes, then a message.
-fn three_and_message(a: u8, b: u8, c: u8, m: Message) -> [u8; 12]
+fn three_and_message(a: u8, b: u8, c: u8, m: Message) -> [u8; 3 + layout::MESSAGE_BYTES]
     ensures { λ r. ⌜ r ≡ a ∷ b ∷ c ∷ messageBytes m ⌝ }
 {
-    let t = message_bytes(m);
-    [
-        a,
-        b,
-        c,
-        t[0],
-        t[1],
-        t[2],
-        t[3],
-        t[4],
-        t[5],
-        t[6],
-        t[7],
-        t[8],
-    ]
+    let mut out = [0u8; 3 + layout::MESSAGE_BYTES];
+    let three = [a, b, c];
+    put_bytes(&mut out, 0, &three);
+    let message = message_bytes(m);
+    put_bytes(&mut out, 3, &message);
+    out
 }
 
-fn guard_bytes(g: Guard) -> [u8; 12]
+fn guard_bytes(g: Guard) -> [u8; layout::GUARD_BYTES]
     ensures { λ r. ⌜ r ≡ guardBytes g ⌝ }
 {
     let enabled = flag_byte(g.enabled);
@@ -70,7 +63,7 @@ fn guard_bytes(g: Guard) -> [u8; 12]
     }
 }
 
-fn place_bytes(place: Place) -> [u8; 12]
+fn place_bytes(place: Place) -> [u8; layout::PLACE_BYTES]
     ensures { λ r. ⌜ r ≡ placeBytes place ⌝ }
 {
     match place {
@@ -88,14 +81,18 @@ fn place_bytes(place: Place) -> [u8; 12]
     }
 }
 
-fn two_and_message(a: u8, b: u8, m: Message) -> [u8; 11]
+fn two_and_message(a: u8, b: u8, m: Message) -> [u8; 2 + layout::MESSAGE_BYTES]
     ensures { λ r. ⌜ r ≡ a ∷ b ∷ messageBytes m ⌝ }
 {
-    let t = message_bytes(m);
-    [a, b, t[0], t[1], t[2], t[3], t[4], t[5], t[6], t[7], t[8]]
+    let mut out = [0u8; 2 + layout::MESSAGE_BYTES];
+    let two = [a, b];
+    put_bytes(&mut out, 0, &two);
+    let message = message_bytes(m);
+    put_bytes(&mut out, 2, &message);
+    out
 }
 
-fn signal_bytes(signal: Signal) -> [u8; 11]
+fn signal_bytes(signal: Signal) -> [u8; layout::SIGNAL_BYTES]
     ensures { λ r. ⌜ r ≡ signalBytes signal ⌝ }
 {
     match signal {
@@ -104,40 +101,48 @@ fn signal_bytes(signal: Signal) -> [u8; 11]
     }
 }
 
-fn guards_bytes(guards: [Guard; 8]) -> [u8; 96]
+fn guards_bytes(guards: [Guard; layout::SLOTS]) -> [u8; layout::GUARDS_BYTES]
     ensures { λ r. ⌜ r ≡ guardsBytes guards ⌝ }
 {
-    let mut out = [0u8; 96];
+    let mut out = [0u8; layout::GUARDS_BYTES];
     let mut k: usize = 0;
-    while k < 8 {
+    while k < layout::SLOTS {
         let g = guards[k];
         let bytes = guard_bytes(g);
-        put_bytes(&mut out, 12 * k, &bytes);
+        put_bytes(&mut out, layout::GUARD_BYTES * k, &bytes);
         k = k + 1;
     }
     out
 }
 
-pub fn process_bytes(x: Process) -> [u8; 222]
+pub fn process_bytes(x: Process) -> [u8; layout::RECORD_BYTES]
     ensures { λ r. ⌜ r ≡ processBytes x ⌝ }
 {
-    let mut out = [0u8; 222];
+    let mut out = [0u8; layout::RECORD_BYTES];
     let p = x.place;
     let place = place_bytes(p);
     put_bytes(&mut out, 0, &place);
     let s = x.signal;
     let signal = signal_bytes(s);
-    put_bytes(&mut out, 12, &signal);
+    put_bytes(&mut out, layout::SIGNAL_AT, &signal);
     let ticket = x.transaction;
     let word = word_bytes(ticket.0);
-    put_bytes(&mut out, 23, &word);
+    put_bytes(&mut out, layout::TICKET_AT, &word);
     let three = [flag_byte(x.accepting), x.count, x.altcount];
-    put_bytes(&mut out, 27, &three);
+    put_bytes(&mut out, layout::ACCEPTING_AT, &three);
     let own = x.guards;
     let guards = guards_bytes(own);
-    put_bytes(&mut out, 30, &guards);
+    put_bytes(&mut out, layout::GUARDS_AT, &guards);
     let posted = x.altlist;
     let altlist = guards_bytes(posted);
-    put_bytes(&mut out, 126, &altlist);
+    put_bytes(&mut out, layout::ALTLIST_AT, &altlist);
     out
+}
+
+pub fn head_bytes(h: Head) -> [u8; layout::HEAD_BYTES]
+    ensures { λ r. ⌜ r ≡ headBytes h ⌝ }
+{
+    let next = h.next;
+    let word = word_bytes(next.0);
+    [h.n, word[0], word[1], word[2], word[3]]
 }

@@ -1,6 +1,6 @@
 //! The model's desk by value: each call takes it and hands it back.
 
-use crate::plan::{moved, Call, Plan, Setting, MEETING, REFUSED};
+use crate::plan::{moved, Call, Plan, Setting, MEETING, NEXT_TICKET, REFUSED};
 use model::by_value::{Desk, Guard, GuardList, IndexedMessage, Party, Place, MOST_GUARDS};
 use model::{Action, Message, Ticket};
 
@@ -66,7 +66,7 @@ fn start(plan: Plan, at: Setting) -> Desk {
         ..Party::FRESH
     };
     let mut desk = Desk::new(at.n).expect("2 to 32 parties are made");
-    desk.next_ticket = Ticket(2);
+    desk.next_ticket = Ticket(NEXT_TICKET);
     desk.parties = [waiter; 32];
     desk.parties[0] = starter(plan, 0);
     desk.parties[1] = starter(plan, 1);

@@ -24,6 +24,9 @@ pub enum Call {
 /// How many calls make a meeting.
 pub const MEETING: u8 = 14;
 
+/// The next ticket of every desk that a plan starts from: no less than the offers that are open in it, as crates/meter has it.
+pub const NEXT_TICKET: u32 = 32;
+
 impl Plan {
     pub const ALL: [Plan; 6] = [
         Plan::Step,

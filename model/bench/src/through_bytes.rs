@@ -1,6 +1,6 @@
-//! A step by way of the byte form, as a program in another language calls it.
+//! A step by way of bytes, as a program in another language calls it.
 
-use crate::rendezvous::{self, ANSWER, TABLE};
+use crate::rendezvous::{self, ANSWER_BYTES, TABLE_BYTES};
 use std::hint::black_box;
 use std::time::Instant;
 
@@ -10,16 +10,14 @@ const CALLS: u32 = 100;
 /// Prints the time of one step at each n.
 pub fn print(sizes: &[u8]) {
     for &n in sizes {
-        println!(
-            "A step by way of the byte form at n = {n}: {:.0} ns.",
-            step(n)
-        );
+        println!("A step by way of bytes at n = {n}: {:.0} ns.", step(n));
     }
 }
 
 /// Nanoseconds of a step on a fresh table, the least of some runs.
 fn step(n: u8) -> f64 {
-    let (mut table, mut after, mut answer) = ([0; TABLE], [0; TABLE], [0; ANSWER]);
+    let (mut table, mut after, mut answer) =
+        ([0; TABLE_BYTES], [0; TABLE_BYTES], [0; ANSWER_BYTES]);
     assert!(rendezvous::create(n, &mut table, &mut answer));
     let mut least = f64::MAX;
     for _ in 0..RUNS {

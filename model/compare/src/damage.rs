@@ -3,7 +3,8 @@
 
 use crate::draw::{self, list, message};
 use crate::random::Random;
-use crate::wire::{BLANK, RECORDS};
+use crate::rendezvous::PROCESSES;
+use crate::wire::BLANK;
 use model::{Call, Desk, Guard, IndexedMessage, Party, Place, Ticket};
 
 /// One float in so many of a damaged desk is not a number.
@@ -53,7 +54,7 @@ pub fn odd_desk(random: &mut Random) -> Desk {
     };
     let mut parties: Vec<Party> = (0..n).map(|party| odd_party(random, party, n)).collect();
     commit_some(random, &mut parties);
-    while parties.len() < RECORDS {
+    while parties.len() < PROCESSES {
         parties.push(match random.one_in(3) {
             true => any_party(random),
             false => Party::fresh(),
@@ -218,7 +219,7 @@ pub fn any_desk(random: &mut Random) -> Desk {
             _ => random.below(34),
         },
         next_ticket: Ticket(random.bits()),
-        parties: (0..RECORDS).map(|_| any_party(random)).collect(),
+        parties: (0..PROCESSES).map(|_| any_party(random)).collect(),
     }
 }
 
@@ -271,7 +272,7 @@ pub fn changed_desk(random: &mut Random) -> Desk {
     }
     let party = random.below(n);
     change_one_value(random, &mut desk.parties[party]);
-    desk.parties.resize(RECORDS, Party::fresh());
+    desk.parties.resize(PROCESSES, Party::fresh());
     desk
 }
 

@@ -1,6 +1,8 @@
-//! The calls on a table in its byte form, whoever answers them, and the
+//! The calls on a table as bytes, whoever answers them, and the
 //! comparison of one call with the model's.
 
+use crate::rendezvous::{RECORD_ACCEPTING, RECORD_COUNTS, RECORD_OWN, RECORD_POSTED};
+use crate::rendezvous::{RECORD_PLACE, RECORD_SIGNAL, RECORD_TICKET};
 use crate::wire::{decode, encode, normal, one_nan, Table};
 use model::{Action, Call, Desk, Given, Guard, Outcome, Refusal};
 
@@ -22,7 +24,7 @@ pub fn fresh(library: &dyn Library, n: usize) -> Result<Table, String> {
     made.map_err(|number| format!("a table of {n} is refused by {number}"))
 }
 
-/// The model behind the byte form, to try the comparison on itself.
+/// The model behind bytes, to try the comparison on itself.
 pub struct Modelled;
 
 impl Library for Modelled {
@@ -51,8 +53,8 @@ fn changes(answer: &Result<Given, u8>) -> bool {
     }
 }
 
-/// Makes a call in the model. A NaN is given in the one way that the byte form
-/// has for it.
+/// Makes a call in the model. A NaN is given in the one way that the library
+/// writes it.
 pub fn in_model(desk: &mut Desk, call: &Call) -> Result<Given, u8> {
     match call.on(desk) {
         Ok(Given::Outcome(outcome)) => Ok(Given::Outcome(Outcome {
@@ -102,8 +104,9 @@ fn same(given: &Table, expected: &Table) -> Result<(), String> {
     match given.first_difference(expected) {
         None => Ok(()),
         Some(place) => Err(format!(
-            "the table given back is not the model's: {place} (in a record: place 0, \
-             signal 12, ticket 23, accepting 27, counts 28, own list 30, posted list 126)"
+            "the table given back is not the model's: {place} (in a record: place {RECORD_PLACE}, \
+             signal {RECORD_SIGNAL}, ticket {RECORD_TICKET}, accepting {RECORD_ACCEPTING}, counts \
+             {RECORD_COUNTS}, own list {RECORD_OWN}, posted list {RECORD_POSTED})"
         )),
     }
 }

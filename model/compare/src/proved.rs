@@ -1,7 +1,7 @@
 //! The proved library, through the bytes of its tables and answers.
 
 use crate::library::{Library, Reply};
-use crate::rendezvous::{self, ANSWER};
+use crate::rendezvous::{self, ANSWER_BYTES, ANSWER_MESSAGE, ANSWER_WORD};
 use crate::wire::{message_of, put_guard, Table};
 use model::{Answer, Call, Given, Guard, Outcome, Ticket};
 
@@ -37,17 +37,17 @@ impl Library for Proved {
 }
 
 /// Lends the two buffers of a reply to a call, which must find them long enough.
-fn into_buffers(call: impl FnOnce(&mut [u8], &mut [u8]) -> bool) -> (Table, [u8; ANSWER]) {
+fn into_buffers(call: impl FnOnce(&mut [u8], &mut [u8]) -> bool) -> (Table, [u8; ANSWER_BYTES]) {
     // Filled with something that no reply leaves standing.
     let mut out = Table::zero();
     out.bytes_mut().fill(0xee);
-    let mut answer = [0xee; ANSWER];
+    let mut answer = [0xee; ANSWER_BYTES];
     let written = call(out.bytes_mut(), &mut answer);
     assert!(written, "the library finds a buffer too short");
     (out, answer)
 }
 
-/// The guards of an offer in their byte form.
+/// The bytes of an offer's guards.
 fn list(guards: &[Guard]) -> Vec<u8> {
     let mut bytes = Vec::new();
     for guard in guards {
@@ -64,10 +64,11 @@ enum Said {
 }
 
 /// Reads an answer. The library always writes a known kind.
-fn read(answer: &[u8; ANSWER]) -> Said {
+fn read(answer: &[u8; ANSWER_BYTES]) -> Said {
     let [kind, first, second, ..] = *answer;
-    let message = message_of(&answer[3..12]);
-    let word = u32::from_le_bytes([answer[12], answer[13], answer[14], answer[15]]);
+    let message = message_of(&answer[ANSWER_MESSAGE..ANSWER_WORD]);
+    let word = answer[ANSWER_WORD..].try_into().expect("a word is left");
+    let word = u32::from_le_bytes(word);
     let (index, partner) = (usize::from(first), usize::from(second));
     Said::Given(match kind {
         0 => return Said::Made,
@@ -97,14 +98,15 @@ fn place(letter: char, index: usize) -> Answer {
 #[cfg(test)]
 mod tests {
     use super::*;
-    use crate::rendezvous::{LINE, SESSION, TABLE};
+    use crate::rendezvous::{GUARD_BYTES, GUARD_ENABLED, GUARD_PARTNER, LINE_BYTES};
+    use crate::rendezvous::{SESSION_BYTES, TABLE_BYTES};
     use model::Message;
 
-    fn answer(start: [u8; 3], message: &[u8], word: [u8; 4]) -> [u8; ANSWER] {
-        let mut bytes = [0; ANSWER];
-        bytes[..3].copy_from_slice(&start);
-        bytes[3..3 + message.len()].copy_from_slice(message);
-        bytes[12..].copy_from_slice(&word);
+    fn answer(start: [u8; 3], message: &[u8], word: [u8; 4]) -> [u8; ANSWER_BYTES] {
+        let mut bytes = [0; ANSWER_BYTES];
+        bytes[..ANSWER_MESSAGE].copy_from_slice(&start);
+        bytes[ANSWER_MESSAGE..][..message.len()].copy_from_slice(message);
+        bytes[ANSWER_WORD..].copy_from_slice(&word);
         bytes
     }
 
@@ -176,7 +178,9 @@ mod tests {
     /// these lengths: it writes both buffers, or nothing if one is too short.
     fn all_or_nothing(before: &[u8], lengths: [usize; 3]) {
         let [table, out, answer] = lengths;
-        let guard = [1, 1, 0, 0, 0, 0, 0, 0, 0, 0, 0, 0];
+        let mut guard = [0; GUARD_BYTES];
+        guard[GUARD_ENABLED] = 1;
+        guard[GUARD_PARTNER] = 1;
         let given = &before[..table];
         type Fills<'a> = &'a dyn Fn(&mut [u8], &mut [u8]) -> bool;
         let calls: [Fills; 4] = [
@@ -187,7 +191,7 @@ mod tests {
         ];
         for call in calls {
             let (mut bytes, mut said) = (vec![0xee; out], vec![0xee; answer]);
-            let whole = table >= TABLE && out >= TABLE && answer >= ANSWER;
+            let whole = table >= TABLE_BYTES && out >= TABLE_BYTES && answer >= ANSWER_BYTES;
             assert_eq!(call(&mut bytes, &mut said), whole, "{lengths:?}");
             assert_eq!(untouched(&bytes), !whole, "{lengths:?}");
             assert_eq!(untouched(&said), !whole, "{lengths:?}");
@@ -197,18 +201,25 @@ mod tests {
     #[test]
     fn a_call_writes_all_or_nothing() {
         let table = Proved.create(2).expect("two is a good number");
-        for short in [0, 1, TABLE - 1] {
-            all_or_nothing(table.bytes(), [short, TABLE, ANSWER]);
-            all_or_nothing(table.bytes(), [TABLE, short, ANSWER]);
-            all_or_nothing(table.bytes(), [TABLE, TABLE, short.min(ANSWER - 1)]);
+        for short in [0, 1, TABLE_BYTES - 1] {
+            all_or_nothing(table.bytes(), [short, TABLE_BYTES, ANSWER_BYTES]);
+            all_or_nothing(table.bytes(), [TABLE_BYTES, short, ANSWER_BYTES]);
+            all_or_nothing(
+                table.bytes(),
+                [TABLE_BYTES, TABLE_BYTES, short.min(ANSWER_BYTES - 1)],
+            );
         }
         all_or_nothing(table.bytes(), [0, 0, 0]);
-        all_or_nothing(table.bytes(), [TABLE, TABLE, ANSWER]);
+        all_or_nothing(table.bytes(), [TABLE_BYTES, TABLE_BYTES, ANSWER_BYTES]);
     }
 
     #[test]
     fn a_new_table_is_written_with_its_answer_or_not_at_all() {
-        for (table, answer) in [(TABLE - 1, ANSWER), (TABLE, ANSWER - 1), (0, 0)] {
+        for (table, answer) in [
+            (TABLE_BYTES - 1, ANSWER_BYTES),
+            (TABLE_BYTES, ANSWER_BYTES - 1),
+            (0, 0),
+        ] {
             let (mut out, mut said) = (vec![0xee; table], vec![0xee; answer]);
             assert!(!rendezvous::create(2, &mut out, &mut said));
             assert!(untouched(&out) && untouched(&said));
@@ -218,8 +229,8 @@ mod tests {
     /// What the script program prints by way of its calls, for an input in
     /// pieces. `room` is how many lines the output of one call may have.
     fn printed(input: &[u8], piece: usize, room: usize) -> Vec<u8> {
-        let (mut session, mut after) = ([0xee; SESSION], [0xee; SESSION]);
-        let mut out = vec![0xee; room * LINE];
+        let (mut session, mut after) = ([0xee; SESSION_BYTES], [0xee; SESSION_BYTES]);
+        let mut out = vec![0xee; room * LINE_BYTES];
         let mut output = Vec::new();
         assert!(rendezvous::script_start(&mut session));
         for mut rest in input.chunks(piece) {
@@ -250,13 +261,17 @@ mod tests {
 
     #[test]
     fn a_session_that_is_too_short_is_neither_read_nor_written() {
-        let mut session = [0; SESSION];
+        let mut session = [0; SESSION_BYTES];
         assert!(rendezvous::script_start(&mut session));
-        let mut short = [0xee; SESSION - 1];
+        let mut short = [0xee; SESSION_BYTES - 1];
         assert!(!rendezvous::script_start(&mut short));
         assert!(untouched(&short));
-        for (state, after) in [(SESSION - 1, SESSION), (SESSION, SESSION - 1), (0, 0)] {
-            let (mut next, mut out) = (vec![0xee; after], [0xee; 2 * LINE]);
+        for (state, after) in [
+            (SESSION_BYTES - 1, SESSION_BYTES),
+            (SESSION_BYTES, SESSION_BYTES - 1),
+            (0, 0),
+        ] {
+            let (mut next, mut out) = (vec![0xee; after], [0xee; 2 * LINE_BYTES]);
             let fed = rendezvous::script_feed(&session[..state], b"m\n", &mut next, &mut out);
             assert_eq!(fed, None);
             assert!(untouched(&next) && untouched(&out));
@@ -265,14 +280,14 @@ mod tests {
 
     #[test]
     fn a_session_ends_only_where_both_are_long_enough() {
-        let (mut session, mut begun) = ([0; SESSION], [0; SESSION]);
+        let (mut session, mut begun) = ([0; SESSION_BYTES], [0; SESSION_BYTES]);
         assert!(rendezvous::script_start(&mut session));
-        let fed = rendezvous::script_feed(&session, b"m", &mut begun, &mut [0; LINE]);
+        let fed = rendezvous::script_feed(&session, b"m", &mut begun, &mut [0; LINE_BYTES]);
         assert_eq!(fed, Some((1, 0)));
         for (state, room, prints) in [
-            (SESSION, LINE, 4),
-            (SESSION - 1, LINE, 0),
-            (SESSION, LINE - 1, 0),
+            (SESSION_BYTES, LINE_BYTES, 4),
+            (SESSION_BYTES - 1, LINE_BYTES, 0),
+            (SESSION_BYTES, LINE_BYTES - 1, 0),
         ] {
             let mut out = vec![0xee; room];
             assert_eq!(rendezvous::script_finish(&begun[..state], &mut out), prints);

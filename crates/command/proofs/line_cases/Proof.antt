@@ -2,12 +2,13 @@
 use mathlib.Core.Path.{refl}
 use Rattle.text.specs.Ascii.{bytes}
 use Rattle.text.specs.Reading.{decimalFrom, decimal, byteNumber, whole, hexDigit, hexFrom, hexWord}
-use Rattle.command.specs.Commands.{fields, wholeOf, readingOf, limitOf, messageBy, messageOf, sendOf, actionBy, actionOf, leading, guardFrom, guardOf, guardsOf, numberOf, offerOf, numbered, byLetter, commandIn, commandOf}
+use Rattle.command.specs.Commands.{fields, wholeIn, readingIn, limitIn, messageBy, messageIn, sendIn, actionBy, actionIn, leading, guardFrom, guardIn}
+use Rattle.command.specs.Commands.{guardsIn, numberIn, offerIn, numbered, byLetter, commandIn, commandOf}
 use Rattle.command.proofs.line_cases.Statement.{statement}
 use Rattle.command.proofs.line_cases.Tie as tie
 
 returns : tie.Need-returns
-unfolding bytes decimalFrom decimal byteNumber whole hexDigit hexFrom hexWord fields wholeOf readingOf limitOf messageBy messageOf sendOf actionBy actionOf leading guardFrom guardOf guardsOf numberOf offerOf numbered byLetter commandIn commandOf
+unfolding bytes decimalFrom decimal byteNumber whole hexDigit hexFrom hexWord fields wholeIn readingIn limitIn messageBy messageIn sendIn actionBy actionIn leading guardFrom guardIn guardsIn numberIn offerIn numbered byLetter commandIn commandOf
 returns c =
     record {
       commands = (refl, refl, refl, refl, refl, refl, refl, refl, refl, refl);

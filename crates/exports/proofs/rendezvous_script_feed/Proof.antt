@@ -1,11 +1,11 @@
-use mathlib.Core.Path.{_≡_, refl, sym, _∙_}
+use mathlib.Core.Path.{refl, sym, _∙_}
 use mathlib.Core.Bool.{true, false≢true}
 use borrow.Author.Needs.{needs}
 use borrow.Author.Tests.{not-true, not-false}
 use Rattle.script.specs.Feeding.{fed}
 use Rattle.exports.specs.Scripts.{isSession}
-use Rattle.exports.proofs.Forms.{both-true}
-use Rattle.exports.proofs.Sessions.{kept-read}
+use Rattle.exports.proofs.Giving.{both-true}
+use Rattle.exports.proofs.Sessions.{stored-read}
 use Rattle.exports.proofs.rendezvous_script_feed.Statement.{statement}
 use Rattle.exports.proofs.rendezvous_script_feed.Tie as tie
 
@@ -35,7 +35,7 @@ returns-2 c =
       takes = rw y (e .0);
       fills = rw s at (e .1 .0);
       prints = rw s at (e .1 .1 .1);
-      keeps = kept-read (isSession (a .state .now)) _ _ _ _ (w .0) k;
+      keeps = stored-read (isSession (a .state .now)) _ _ _ _ (w .0) k;
     }
 
 pub rendezvous-script-feed-spec : {M : Type 1} → statement M

@@ -2,11 +2,12 @@ use mathlib.Core.Path.{refl}
 use borrow.Author.Needs.{needs}
 use borrow.Author.Tests.{le-leb, lt-leb}
 use lib.ListN.{length}
+use Rattle.exports.specs.Layout.{sessionLength}
 use Rattle.exports.proofs.rendezvous_script_finish.Statement.{statement}
 use Rattle.exports.proofs.rendezvous_script_finish.Tie as tie
 
 returns : tie.Need-returns
-returns c = record { fills = rw (lt-leb 7312 (length (c .before .before .before .args .state .now)) (c .if1 .taken)) refl; prints = refl }
+returns c = record { fills = rw (lt-leb sessionLength (length (c .before .before .before .args .state .now)) (c .if1 .taken)) refl; prints = refl }
 
 returns-2 : tie.Need-returns-2
 returns-2 c =
@@ -16,7 +17,7 @@ returns-2 c =
     let a = i .before .before .before .args in
     let e = p .put-text .ensures in
     let g = rw (f .before .session-in .ensures) at (f .finish .ensures) in
-    record { fills = rw (le-leb 7312 (length (a .state .now)) (i .if1 .left)) (rw g at (e .0)); prints = rw g at (e .1) }
+    record { fills = rw (le-leb sessionLength (length (a .state .now)) (i .if1 .left)) (rw g at (e .0)); prints = rw g at (e .1) }
 
 pub rendezvous-script-finish-spec : {M : Type 1} → statement M
 rendezvous-script-finish-spec =

@@ -1,4 +1,4 @@
-use Rattle.history.proofs.Formed.{stays-well-formed}
+use Rattle.history.proofs.Claimed.{stays-well-formed}
 use Rattle.history.proofs.stays_well_formed.Statement.{statement}
 use Rattle.history.proofs.stays_well_formed.Tie as tie
 

@@ -4,7 +4,7 @@ use native.Mathlib.Omega.{arith}
 use borrow.Author.Needs.{needs}
 use borrow.Author.Tests.{not-true, not-false}
 use lib.ListN.{length}
-use Rattle.script.specs.Feeding.{stateOf}
+use Rattle.script.specs.Feeding.{stateHeld}
 use Rattle.script_main.specs.declared.Status.the-variants.{Endless}
 use Rattle.script_main.specs.Turns.{isGoing, statusOf}
 use Rattle.script_main.proofs.Turns.{SoFar, none-yet, one-more, stopped, used-up}
@@ -13,7 +13,7 @@ use Rattle.script_main.proofs.read_all.Tie as tie
 
 abbrev Inv-loop : tie.InvT-loop
 Inv-loop input₀ output₀ now₀ left₀ input output now left =
-    (length input ≡ length input₀) × (length output ≡ length output₀) × SoFar (stateOf now₀) (stateOf now) left
+    (length input ≡ length input₀) × (length output ≡ length output₀) × SoFar (stateHeld now₀) (stateHeld now) left
 
 abbrev μ-loop : tie.MeasureT-loop
 μ-loop input₀ output₀ now₀ left₀ input output now left = left

@@ -1,19 +1,21 @@
-use Prim.Native.Nat.{ℕ, _*_, _≤_, _-_}
-use mathlib.Core.Path.{_≡_, refl, sym, subst, _∙_}
+use Prim.Native.Nat.{_*_, _-_}
+use mathlib.Core.Path.{refl}
 use native.Mathlib.Omega.{arith}
 use borrow.Author.Needs.{needs}
-use lib.ListN.{length, take, drop, length-set}
-use lib.Seq.{take-all, drop-drop}
+use lib.ListN.{drop}
+use lib.Seq.{drop-drop}
+use Rattle.rendezvous.specs.Table.{mostProcesses}
+use Rattle.wire.specs.Layout.{headLength, recordLength}
 use Rattle.wire.specs.Reading.{eachOf, processOf, tableOf}
-use Rattle.wire.proofs.Lists.{get-next}
+use Rattle.wire.proofs.Lists.{ReadTo, read-more, read-end}
 use Rattle.wire.proofs.decode.Statement.{statement}
 use Rattle.wire.proofs.decode.Tie as tie
 
 abbrev Inv-loop : tie.InvT-loop
-Inv-loop bytes processes₀ p₀ processes p = (p ≤ 32) × (length processes ≡ 32) × (take p processes ≡ eachOf processOf 222 p (drop 5 bytes))
+Inv-loop bytes processes₀ p₀ processes p = ReadTo processOf recordLength mostProcesses (drop headLength bytes) p processes
 
 abbrev μ-loop : tie.MeasureT-loop
-μ-loop bytes processes₀ p₀ processes p = 32 - p
+μ-loop bytes processes₀ p₀ processes p = mostProcesses - p
 
 loop-holds : tie.Need-loop-holds Inv-loop μ-loop
 unfolding eachOf
@@ -23,16 +25,15 @@ loop-again : tie.Need-loop-again Inv-loop μ-loop
 loop-again c =
     let l = c .before .before .before in
     let s = l .before .before .before .args .bytes .now in
-    (omega arith, simp length-set (l .loop .inv .1), rw (c .process-of .ensures, c .before .from .ensures, ← (drop-drop (222 * l .loop .p) 5 s)) (get-next processOf 222 (drop 5 s) (l .loop .processes) (l .loop .p) (omega arith) (l .loop .inv .2)))
+    rw (c .process-of .ensures, c .before .from .ensures, ← (drop-drop (recordLength * l .loop .p) headLength s))
+    (read-more processOf recordLength mostProcesses (drop headLength s) (l .loop .p) (l .loop .processes) (omega arith) (l .loop .inv))
 
 returns : tie.Need-returns Inv-loop μ-loop
 unfolding tableOf
 returns c =
-    let l = c .before .before .before .before .loop in
-    let s = c .before .before .before .before .before .before .before .args .bytes .now in
-    let e : l .p ≡ 32 = omega arith in
-    let whole : l .processes ≡ eachOf processOf 222 32 (drop 5 s) = sym (take-all 32 (l .processes) (omega arith)) ∙ subst (λ (p : ℕ). take p (l .processes) ≡ eachOf processOf 222 p (drop 5 s)) e (l .inv .2) in
-    rw (c .byte-at .ensures, c .before .word-of .ensures, c .before .before .from2 .ensures, whole)
+    let l = c .before .before .loop in
+    let s = c .before .before .before .before .before .args .bytes .now in
+    rw (c .head-of .ensures, read-end processOf recordLength mostProcesses (drop headLength s) (l .p) (l .processes) (omega arith) (l .inv))
 
 pub decode-spec : {M : Type 1} → statement M
 decode-spec =
@@ -51,7 +52,5 @@ decode-spec =
     (λ c. omega arith)
     (λ c. omega arith)
     loop-again
-    (λ c κs. search needs)
-    (λ c κs. search needs)
     (λ c κs. search needs)
     returns)

@@ -6,5 +6,4 @@ returns : tie.Need-returns
 returns c = table-back
 
 pub reads-back-spec : {M : Type 1} → statement M
-reads-back-spec = tie.close (tie.spec
-    returns)
+reads-back-spec = tie.close (tie.spec returns)

@@ -1,6 +1,6 @@
-//! The byte form of a table (docs/BYTES.md), and what it says as a desk of the
+//! The bytes of a table (docs/BYTES.md), and what they say as a desk of the
 //! model: `table` holds the bytes, `writing` makes them out of a desk, `reading`
-//! a desk out of them, and `normal` gives any bytes the form that the library
+//! a desk out of them, and `normal` turns any bytes into those that the library
 //! writes.
 
 mod normal;
@@ -10,5 +10,5 @@ mod writing;
 
 pub use normal::{normal, one_nan};
 pub use reading::{decode, message_of};
-pub use table::{Table, BLANK, RECORDS};
+pub use table::{Table, BLANK};
 pub use writing::{encode, put_guard, put_message};

@@ -1,23 +1,24 @@
-//! Any bytes in the form in which the library writes them.
+//! Any bytes as the library writes them.
 
 use super::reading::{guard, place, signal, Reader};
-use super::table::{Table, RECORDS, SLOTS, TABLE, TABLE_HEAD};
+use super::table::Table;
 use super::writing::{put_guard, put_place, put_signal};
+use crate::rendezvous::{GUARDS, HEAD_BYTES, PROCESSES, TABLE_BYTES, WORD_BYTES};
 use model::{Action, Guard, IndexedMessage, Message, Place};
 
 /// The same table as the library writes it: known tags, zeros where nothing is
 /// said, and one NaN. Slots past a list's end are kept.
 pub fn normal(table: &Table) -> Table {
     let mut input = Reader(table.bytes());
-    let mut out = Vec::with_capacity(TABLE);
-    out.extend((0..TABLE_HEAD).map(|_| input.byte()));
-    for _ in 0..RECORDS {
+    let mut out = Vec::with_capacity(TABLE_BYTES);
+    out.extend((0..HEAD_BYTES).map(|_| input.byte()));
+    for _ in 0..PROCESSES {
         put_place(&mut out, one_nan_at(place(&mut input)));
         put_signal(&mut out, signal(&mut input).map(one_nan_in));
-        out.extend((0..4).map(|_| input.byte()));
+        out.extend((0..WORD_BYTES).map(|_| input.byte()));
         out.push(u8::from(input.flag()));
         out.extend([input.byte(), input.byte()]);
-        for _ in 0..2 * SLOTS {
+        for _ in 0..2 * GUARDS {
             put_guard(&mut out, &one_nan_of(guard(&mut input)));
         }
     }
@@ -66,6 +67,7 @@ fn one_nan_of(guard: Guard) -> Guard {
 mod tests {
     use super::super::{decode, encode};
     use super::*;
+    use crate::rendezvous::{RECORD_OUTCOME, RECORD_OWN, RECORD_PLACE};
     use model::Desk;
 
     #[test]
@@ -87,8 +89,8 @@ mod tests {
     #[test]
     fn an_unknown_tag_counts_as_the_last() {
         let mut table = Table::zero();
-        table.bytes_mut()[5] = 11;
-        table.bytes_mut()[8] = 200;
+        table.bytes_mut()[HEAD_BYTES + RECORD_PLACE] = 11;
+        table.bytes_mut()[HEAD_BYTES + RECORD_OUTCOME] = 200;
         let record = &decode(&table).parties[0];
         let nothing_but_zeros = Message::Limit {
             low: 0.0,
@@ -99,13 +101,13 @@ mod tests {
             message: nothing_but_zeros,
         };
         assert_eq!(record.place, Place::Met(outcome));
-        assert_eq!(normal(&table).bytes()[5..9], [10, 0, 0, 3]);
+        assert_eq!(normal(&table).bytes()[HEAD_BYTES..][..4], [10, 0, 0, 3]);
     }
 
     #[test]
     fn slots_past_a_lists_end_are_kept_but_not_read() {
         let mut table = Table::zero();
-        table.bytes_mut()[5 + 30] = 1;
+        table.bytes_mut()[HEAD_BYTES + RECORD_OWN] = 1;
         assert!(decode(&table).parties[0].guards.is_empty());
         assert_eq!(normal(&table), table);
     }

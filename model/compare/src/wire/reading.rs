@@ -1,6 +1,7 @@
 //! A desk out of bytes.
 
-use super::table::{Table, BLANK, RECORDS, SLOTS};
+use super::table::{Table, BLANK};
+use crate::rendezvous::{GUARDS, PROCESSES};
 use model::{Action, Desk, Guard, IndexedMessage, Message, Party, Place, Ticket};
 
 /// Reads a table: any bytes are one. A tag past the last one counts as the
@@ -11,7 +12,7 @@ pub fn decode(table: &Table) -> Desk {
     Desk {
         n: input.index(),
         next_ticket: Ticket(input.word()),
-        parties: (0..RECORDS).map(|_| record(&mut input)).collect(),
+        parties: (0..PROCESSES).map(|_| record(&mut input)).collect(),
     }
 }
 
@@ -83,7 +84,7 @@ pub fn signal(input: &mut Reader) -> Option<IndexedMessage> {
 }
 
 fn list(input: &mut Reader, count: usize) -> Vec<Guard> {
-    let mut list: Vec<Guard> = (0..SLOTS).map(|_| guard(input)).collect();
+    let mut list: Vec<Guard> = (0..GUARDS).map(|_| guard(input)).collect();
     list.resize(count, BLANK);
     list
 }
@@ -116,7 +117,7 @@ fn message(input: &mut Reader) -> Message {
     }
 }
 
-/// Reads a message alone, from its nine bytes.
+/// Reads a message alone, from its bytes.
 pub fn message_of(bytes: &[u8]) -> Message {
     message(&mut Reader(bytes))
 }

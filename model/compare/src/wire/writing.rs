@@ -1,15 +1,16 @@
 //! A desk as bytes.
 
-use super::table::{Table, BLANK, MESSAGE, RECORDS, SLOTS, TABLE};
+use super::table::{Table, BLANK};
+use crate::rendezvous::{GUARDS, MESSAGE_BYTES, PROCESSES, TABLE_BYTES};
 use model::{Desk, Guard, IndexedMessage, Message, Party, Place};
 
 /// Writes a desk; a record that it does not have is a fresh one.
 pub fn encode(desk: &Desk) -> Table {
-    let mut out = Vec::with_capacity(TABLE);
+    let mut out = Vec::with_capacity(TABLE_BYTES);
     out.push(desk.n as u8);
     out.extend(desk.next_ticket.0.to_le_bytes());
     let fresh = Party::fresh();
-    for number in 0..RECORDS {
+    for number in 0..PROCESSES {
         put_record(&mut out, desk.parties.get(number).unwrap_or(&fresh));
     }
     Table::of(out)
@@ -46,7 +47,7 @@ pub fn put_place(out: &mut Vec<u8>, place: Place) {
 
 pub fn put_signal(out: &mut Vec<u8>, signal: Option<IndexedMessage>) {
     match signal {
-        None => out.extend([0; 2 + MESSAGE]),
+        None => out.extend([0; 2 + MESSAGE_BYTES]),
         Some(IndexedMessage { index, message }) => {
             out.extend([1, index as u8]);
             put_message(out, message);
@@ -55,7 +56,7 @@ pub fn put_signal(out: &mut Vec<u8>, signal: Option<IndexedMessage>) {
 }
 
 fn put_slots(out: &mut Vec<u8>, list: &[Guard]) {
-    for slot in 0..SLOTS {
+    for slot in 0..GUARDS {
         put_guard(out, list.get(slot).unwrap_or(&BLANK));
     }
 }
@@ -80,16 +81,18 @@ pub fn put_message(out: &mut Vec<u8>, message: Message) {
 
 #[cfg(test)]
 mod tests {
-    use super::super::table::{GUARD, RECORD};
     use super::*;
+    use crate::rendezvous::{GUARD_MESSAGE, HEAD_BYTES, HEAD_COUNT, HEAD_NEXT};
+    use crate::rendezvous::{
+        RECORD_BYTES, RECORD_OWN, RECORD_POSTED, RECORD_SIGNAL, RECORD_TICKET,
+    };
     use model::{Action, Ticket};
 
     #[test]
     fn a_fresh_table_is_n_and_zeros() {
         let table = encode(&Desk::new(7).expect("seven is a good number"));
-        assert_eq!(table.bytes().len(), 7109);
-        assert_eq!(table.bytes()[0], 7);
-        assert!(table.bytes()[1..].iter().all(|&byte| byte == 0));
+        assert_eq!(table.bytes()[HEAD_COUNT], 7);
+        assert!(table.bytes()[HEAD_NEXT..].iter().all(|&byte| byte == 0));
     }
 
     #[test]
@@ -114,16 +117,16 @@ mod tests {
             action: Action::Send(Message::Whole(-2)),
         }];
         let table = encode(&desk);
-        let bytes = &table.bytes()[5 + RECORD..];
-        assert_eq!(table.bytes()[..5], [2, 1, 2, 3, 4]);
+        let (head, records) = table.bytes().split_at(HEAD_BYTES);
+        let bytes = &records[RECORD_BYTES..];
+        assert_eq!(head, [2, 1, 2, 3, 4]);
         assert_eq!(bytes[..3], [4, 3, 4]);
-        assert_eq!(bytes[12..23], [1, 5, 3, 0, 0, 128, 63, 0, 0, 0, 192]);
-        assert_eq!(bytes[23..30], [6, 0, 0, 0, 1, 0, 1]);
-        let posted = 30 + SLOTS * GUARD;
-        assert_eq!(bytes[posted..posted + 4], [1, 9, 1, 1]);
-        assert_eq!(
-            bytes[posted + 4..posted + 12],
-            [254, 255, 255, 255, 0, 0, 0, 0]
-        );
+        let signal = [1, 5, 3, 0, 0, 128, 63, 0, 0, 0, 192];
+        assert_eq!(bytes[RECORD_SIGNAL..RECORD_TICKET], signal);
+        assert_eq!(bytes[RECORD_TICKET..RECORD_OWN], [6, 0, 0, 0, 1, 0, 1]);
+        let posted = &bytes[RECORD_POSTED..];
+        assert_eq!(posted[..GUARD_MESSAGE], [1, 9, 1]);
+        let message = [1, 254, 255, 255, 255, 0, 0, 0, 0];
+        assert_eq!(posted[GUARD_MESSAGE..][..MESSAGE_BYTES], message);
     }
 }

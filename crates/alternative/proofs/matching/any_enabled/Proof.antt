@@ -3,14 +3,14 @@ use mathlib.Core.Path.{_≡_, refl}
 use mathlib.Core.Bool.{Bool, true, false, cond, _||_}
 use mathlib.Core.List.{List, [], _∷_}
 use borrow.Author.Needs.{needs}
-use Rattle.alternative.specs.Types.{Guard, Found, At, Missing}
+use Rattle.alternative.specs.Types.{Guard, Found}
 use Rattle.alternative.specs.Guards.{anyGuard, firstFrom, nextEnabled}
 use Rattle.alternative.proofs.matching.any_enabled.Statement.{statement}
 use Rattle.alternative.proofs.matching.any_enabled.Tie as tie
 
 abbrev found : Found → Bool
-found (At i) = true
-found Missing = false
+found (Found.At i) = true
+found Found.Missing = false
 
 -- a guard of a list passes a test just if the search for one finds it
 any-found : (test : Guard → Bool) (gs : List Guard) (k : ℕ) → found (firstFrom test gs k) ≡ anyGuard test gs
@@ -18,7 +18,7 @@ unfolding firstFrom anyGuard
 any-found test [] k = refl
 any-found test (g ∷ gs) k = go (test g) (any-found test gs (suc k))
   where
-    go : (b : Bool) → found (firstFrom test gs (suc k)) ≡ anyGuard test gs → found (cond b (At k) (firstFrom test gs (suc k))) ≡ (b || anyGuard test gs)
+    go : (b : Bool) → found (firstFrom test gs (suc k)) ≡ anyGuard test gs → found (cond b (Found.At k) (firstFrom test gs (suc k))) ≡ (b || anyGuard test gs)
     go true h = refl
     go false h = h
 

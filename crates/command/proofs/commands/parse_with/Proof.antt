@@ -1,7 +1,7 @@
 use mathlib.Core.Path.{refl, _∙_}
 use borrow.Author.Needs.{needs}
-use Rattle.command.specs.Types.{Kind}
-use Rattle.command.specs.Commands.{New, Step, Collect, byLetter}
+use Rattle.command.specs.Types.{Step, Collect, New, Do, Kind}
+use Rattle.command.specs.Commands.{byLetter}
 use Rattle.command.proofs.Letters.{numbered-as, with-none}
 use Rattle.command.proofs.commands.parse_with.Statement.{statement}
 use Rattle.command.proofs.commands.parse_with.Tie as tie
@@ -16,11 +16,11 @@ returns-2 c = rw (c .before .if2 .taken) (c .parse-offer .ensures)
 
 returns-3 : tie.Need-returns-3
 unfolding byLetter
-returns-3 c = rw (c .before .if3 .taken) (c .parse-numbered2 .ensures ∙ numbered-as Kind.Step Step (λ n. refl) _)
+returns-3 c = rw (c .before .if3 .taken) (c .parse-numbered2 .ensures ∙ numbered-as Kind.Step (λ p. Do (Step p)) (λ n. refl) _)
 
 returns-4 : tie.Need-returns-4
 unfolding byLetter
-returns-4 c = rw (c .before .if4 .taken) (c .parse-numbered3 .ensures ∙ numbered-as Kind.Collect Collect (λ n. refl) _)
+returns-4 c = rw (c .before .if4 .taken) (c .parse-numbered3 .ensures ∙ numbered-as Kind.Collect (λ p. Do (Collect p)) (λ n. refl) _)
 
 returns-5 : tie.Need-returns-5
 returns-5 c = rw (with-none (c .before .before .before .before .before .before .args .letter) (c .before .before .before .before .before .before .args .s .now) (c .before .before .before .before .if1 .left) (c .before .before .before .if2 .left) (c .before .before .if3 .left) (c .before .if4 .left)) (c .plain-command .ensures)

@@ -2,7 +2,7 @@ use mathlib.Core.Path.{sym, ap, _∙_}
 use borrow.Author.Needs.{needs}
 use lib.Seq.{length-take-le}
 use Rattle.text.specs.Reading.{isDigit}
-use Rattle.command.specs.Commands.{actionOf, guardFrom}
+use Rattle.command.specs.Commands.{actionIn, guardFrom}
 use Rattle.command.proofs.Leading.{leading-within, part-rest}
 use Rattle.command.proofs.guards.guard_from.Statement.{statement}
 use Rattle.command.proofs.guards.guard_from.Tie as tie
@@ -29,7 +29,7 @@ unfolding guardFrom
 returns-2 c =
     let s = c .before .before .before .before .before .before .before .before .before .before .before .args .s .now in
     let d = c .before .before .before .before .before .before .before .before .before .digit-count in
-    let action = c .before .before .read-action .ensures ∙ ap actionOf (part-rest (d .result) s) in
+    let action = c .before .before .read-action .ensures ∙ ap actionIn (part-rest (d .result) s) in
     rw (← d .ensures, ← c .before .before .before .before .before .before .before .read-byte-number .ensures, c .before .before .before .before .before .partner .given .1, ← action, c .enum-told2 .given .1)
 
 returns-3 : tie.Need-returns-3
@@ -37,7 +37,7 @@ unfolding guardFrom
 returns-3 c =
     let s = c .before .before .before .before .before .before .before .before .before .before .before .before .args .s .now in
     let d = c .before .before .before .before .before .before .before .before .before .before .digit-count in
-    let action = c .before .before .before .read-action .ensures ∙ ap actionOf (part-rest (d .result) s) in
+    let action = c .before .before .before .read-action .ensures ∙ ap actionIn (part-rest (d .result) s) in
     rw (← d .ensures, ← c .before .before .before .before .before .before .before .before .read-byte-number .ensures, c .before .before .before .before .before .before .partner .given .1, ← action, c .before .action .given .1)
 
 pub guard-from-spec : {M : Type 1} → statement M

@@ -1,7 +1,7 @@
 use mathlib.Core.Path.{sym, ap, _∙_}
 use borrow.Author.Needs.{needs}
 use borrow.Author.Tests.{ne-eqb}
-use Rattle.command.specs.Commands.{sendOf, actionBy}
+use Rattle.command.specs.Commands.{sendIn, actionBy}
 use Rattle.command.proofs.Leading.{part-rest}
 use Rattle.command.proofs.Heads.{alone-of, not-alone, action-none, action-by}
 use Rattle.command.proofs.guards.read_action.Statement.{statement}
@@ -26,7 +26,7 @@ returns-4 : tie.Need-returns-4
 unfolding actionBy
 returns-4 c =
     let s = c .before .before .before .before .before .before .before .args .s .now in
-    rw (action-by s (c .before .before .before .before .before .if1 .left), c .before .before .if4 .taken) (c .send-action .ensures ∙ ap sendOf (part-rest 1 s))
+    rw (action-by s (c .before .before .before .before .before .if1 .left), c .before .before .if4 .taken) (c .send-action .ensures ∙ ap sendIn (part-rest 1 s))
 
 returns-5 : tie.Need-returns-5
 unfolding actionBy

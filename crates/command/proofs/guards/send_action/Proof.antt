@@ -1,15 +1,15 @@
 use mathlib.Core.Path.{sym}
 use borrow.Author.Needs.{needs}
-use Rattle.command.specs.Commands.{sendOf}
+use Rattle.command.specs.Commands.{sendIn}
 use Rattle.command.proofs.guards.send_action.Statement.{statement}
 use Rattle.command.proofs.guards.send_action.Tie as tie
 
 returns : tie.Need-returns
-unfolding sendOf
+unfolding sendIn
 returns c = rw (sym (c .before .before .read-message .ensures), c .enum-told .given .1)
 
 returns-2 : tie.Need-returns-2
-unfolding sendOf
+unfolding sendIn
 returns-2 c = rw (sym (c .before .before .before .read-message .ensures), c .before .m .given .1)
 
 pub send-action-spec : {M : Type 1} → statement M

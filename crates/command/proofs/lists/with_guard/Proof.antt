@@ -1,6 +1,6 @@
 use mathlib.Core.Logic.{⊎-elim}
 use borrow.Author.Needs.{needs}
-use Rattle.command.proofs.Growing.{grown-kept, grown-counted}
+use Rattle.command.proofs.Growing.{grown-within, grown-counted}
 use Rattle.command.proofs.lists.with_guard.Statement.{statement}
 use Rattle.command.proofs.lists.with_guard.Tie as tie
 
@@ -8,7 +8,7 @@ returns : tie.Need-returns
 returns c =
     let a = c .before .before .args in
     ⊎-elim
-    (λ w gs e. grown-kept gs (a .guard) (a .list) (c .if1 .guards) e (w .0 .taken) (w .1))
+    (λ w gs e. grown-within gs (a .guard) (a .list) (c .if1 .guards) e (w .0 .taken) (w .1))
     (λ w gs e. grown-counted gs (a .guard) (a .list) (c .if1 .guards) e (w .0 .left) (w .1))
     (c .if1 .came)
 

@@ -1,7 +1,7 @@
 use mathlib.Core.Path.{sym, ap, _∙_}
 use borrow.Author.Needs.{needs}
 use borrow.Author.Tests.{ne-eqb}
-use Rattle.command.specs.Commands.{wholeOf, readingOf, limitOf, messageBy}
+use Rattle.command.specs.Commands.{wholeIn, readingIn, limitIn, messageBy}
 use Rattle.command.proofs.Leading.{part-rest}
 use Rattle.command.proofs.Heads.{alone-of, not-alone, message-none, message-by}
 use Rattle.command.proofs.messages.read_message.Statement.{statement}
@@ -26,19 +26,19 @@ returns-4 : tie.Need-returns-4
 unfolding messageBy
 returns-4 c =
     let s = c .before .before .before .before .before .before .before .args .s .now in
-    rw (message-by s (c .before .before .before .before .before .if1 .left), c .before .before .if4 .taken) (c .whole-message .ensures ∙ ap wholeOf (part-rest 1 s))
+    rw (message-by s (c .before .before .before .before .before .if1 .left), c .before .before .if4 .taken) (c .whole-message .ensures ∙ ap wholeIn (part-rest 1 s))
 
 returns-5 : tie.Need-returns-5
 unfolding messageBy
 returns-5 c =
     let s = c .before .before .before .before .before .before .before .before .args .s .now in
-    rw (message-by s (c .before .before .before .before .before .before .if1 .left), c .before .before .if5 .taken) (c .reading-message .ensures ∙ ap readingOf (part-rest 1 s))
+    rw (message-by s (c .before .before .before .before .before .before .if1 .left), c .before .before .if5 .taken) (c .reading-message .ensures ∙ ap readingIn (part-rest 1 s))
 
 returns-6 : tie.Need-returns-6
 unfolding messageBy
 returns-6 c =
     let s = c .before .before .before .before .before .before .before .before .before .args .s .now in
-    rw (message-by s (c .before .before .before .before .before .before .before .if1 .left), c .before .before .if6 .taken) (c .limit-message .ensures ∙ ap limitOf (part-rest 1 s))
+    rw (message-by s (c .before .before .before .before .before .before .before .if1 .left), c .before .before .if6 .taken) (c .limit-message .ensures ∙ ap limitIn (part-rest 1 s))
 
 returns-7 : tie.Need-returns-7
 unfolding messageBy

@@ -6,7 +6,7 @@ use borrow.Author.Needs.{needs}
 use lib.ListN.{length, drop}
 use Rattle.alternative.specs.Guards.{lent}
 use Rattle.command.specs.Types.{Guard}
-use Rattle.command.specs.Commands.{guardsOf}
+use Rattle.command.specs.Commands.{guardsIn}
 use Rattle.command.specs.Private.{guardRead, fieldsAfter}
 use Rattle.command.proofs.Growing.{longer-length, lent-count}
 use Rattle.command.proofs.GuardFields.{prefixed, prefixed-all, next-within, guards-more, guards-stop, guards-end}
@@ -16,7 +16,7 @@ use Rattle.command.proofs.offers.offer_of.Tie as tie
 -- the guards so far, and those in the rest of the line, are the guards of the line
 abbrev Inv-loop : tie.InvT-loop
 Inv-loop p s list₀ at₀ list at =
-    (gs : List Guard) × (list ≡ lent gs) × (length gs ≤ at) × (at ≤ length s) × (guardsOf (fieldsAfter s) ≡ prefixed gs (guardsOf (fieldsAfter (drop at s))))
+    (gs : List Guard) × (list ≡ lent gs) × (length gs ≤ at) × (at ≤ length s) × (guardsIn (fieldsAfter s) ≡ prefixed gs (guardsIn (fieldsAfter (drop at s))))
 
 abbrev μ-loop : tie.MeasureT-loop
 μ-loop p s list₀ at₀ list at = length s - at

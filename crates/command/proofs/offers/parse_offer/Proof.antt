@@ -3,7 +3,7 @@ use mathlib.Core.Path.{sym, ap, _∙_}
 use mathlib.Core.List.{List}
 use borrow.Author.Needs.{needs}
 use lib.Seq.{length-take-le}
-use Rattle.command.specs.Commands.{guardsOf, offerOf}
+use Rattle.command.specs.Commands.{guardsIn, offerIn}
 use Rattle.command.specs.Private.{notSpace, asOffer, fieldsAfter}
 use Rattle.command.proofs.Leading.{leading-within, part-rest}
 use Rattle.command.proofs.Cuts.{fields-cut}
@@ -23,18 +23,18 @@ part-offer-of-start : tie.Need-part-offer-of-start
 part-offer-of-start c = leading-within notSpace _ _ (c .before .before .before .before .before .field-length .ensures)
 
 returns : tie.Need-returns
-unfolding offerOf
+unfolding offerIn
 returns c =
     let s = c .before .before .before .before .before .before .before .args .s .now in
     rw (fields-cut s, ← c .before .before .before .before .before .field-length .ensures, ← c .before .before .before .read-byte-number .ensures, c .before .enum-told .given .1) (c .plain-command .ensures)
 
 returns-2 : tie.Need-returns-2
-unfolding offerOf
+unfolding offerIn
 returns-2 c =
     let s = c .before .before .before .before .before .before .before .before .before .args .s .now in
     let n = c .before .before .before .before .before .before .before .field-length in
     let p = c .before .before .before .p .given in
-    let rest = ap (λ (bs : List ℕ). asOffer (p .0 .0) (guardsOf (fieldsAfter bs))) (part-rest (n .result) s) in
+    let rest = ap (λ (bs : List ℕ). asOffer (p .0 .0) (guardsIn (fieldsAfter bs))) (part-rest (n .result) s) in
     rw (fields-cut s, ← n .ensures, ← c .before .before .before .before .before .read-byte-number .ensures, p .1)
     (c .offer-of .ensures ∙ rest)
 

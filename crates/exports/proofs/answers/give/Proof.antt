@@ -3,8 +3,9 @@ use borrow.Author.Needs.{length-unmapped, needs}
 use borrow.Author.Tests.{not-true, not-false}
 use lib.ListN.{length}
 use Rattle.rendezvous.specs.Numbers.{said}
+use Rattle.exports.specs.Layout.{answerLength}
 use Rattle.exports.specs.Answers.{saidBytes}
-use Rattle.exports.proofs.Forms.{gives-nothing, gives-both}
+use Rattle.exports.proofs.Giving.{gives-nothing, gives-both}
 use Rattle.exports.proofs.answers.give.Statement.{statement}
 use Rattle.exports.proofs.answers.give.Tie as tie
 
@@ -17,7 +18,7 @@ returns-2 c =
     let e = f .before .before .before in
     let i = e .before .before .before in
     let a = i .before .before .before .args in
-    let n : length (saidBytes (said (a .reply .answer))) ≡ 16 = ap length (sym (f .answer-bytes .ensures)) ∙ search (length-unmapped, f .answer-bytes .ok) in
+    let n : length (saidBytes (said (a .reply .answer))) ≡ answerLength = ap length (sym (f .answer-bytes .ensures)) ∙ search (length-unmapped, f .answer-bytes .ok) in
     gives-both (a .read) (a .reply) (a .table .now) (a .answer .now) _ _ (not-false _ (i .if1 .left)) n (e .encode .ensures .1) (rw (f .answer-bytes .ensures) at (c .before .before .put-bytes .ensures)) (e .encode .ensures .2)
 
 pub give-spec : {M : Type 1} → statement M

@@ -6,14 +6,16 @@ use borrow.Author.Needs.{needs}
 use borrow.Author.Tests.{lt-leb}
 use lib.ListN.{length, replicate, length-replicate}
 use Rattle.wire.specs.Claims.{Faithful}
-use Rattle.exports.proofs.Sessions.{form-whole, session-long, session-kept}
+use Rattle.wire.specs.Layout.{tableLength}
+use Rattle.exports.specs.Layout.{sessionLength}
+use Rattle.exports.proofs.Sessions.{table-whole, session-long, session-stored}
 use Rattle.exports.proofs.scripts.put_session.Statement.{statement}
 use Rattle.exports.proofs.scripts.put_session.Tie as tie
 
 returns : tie.Need-returns
 returns c =
     let s = c .before .before .before .before .before .before .before .before .before .args .out .now in
-    record { enough = sym (lt-leb 7312 (length s) (c .if1 .taken)); read-back = λ e. absurd (false≢true e); behind = refl; short = λ e. refl }
+    record { enough = sym (lt-leb sessionLength (length s) (c .if1 .taken)); read-back = λ e. absurd (false≢true e); behind = refl; short = λ e. refl }
 
 returns-2 : tie.Need-returns-2
 returns-2 c =
@@ -26,9 +28,9 @@ returns-2 c =
     let s = a .args .session in
     let l = a .args .out .now in
     let long = session-long s _ (a .good .0) in
-    let h : 7312 ≤ length l = t .if1 .left in
+    let h : sessionLength ≤ length l = t .if1 .left in
     let f : Faithful (s .table) = e .encode .ensures .2 in
-    session-kept s long f l (c .before .before .put-bytes3 .last .0) h (rw (c .before .before .put-bytes3 .ensures, two .put-bytes2 .ensures, one .put-bytes .ensures, k .flag-byte .ensures, k .before .least .ensures, e .encode .ensures .1, form-whole (s .table) (replicate 7109 0) (length-replicate {A = ℕ} 7109 0)))
+    session-stored s long f l (c .before .before .put-bytes3 .last .0) h (rw (c .before .before .put-bytes3 .ensures, two .put-bytes2 .ensures, one .put-bytes .ensures, k .flag-byte .ensures, k .before .least .ensures, e .encode .ensures .1, table-whole (s .table) (replicate tableLength 0) (length-replicate {A = ℕ} tableLength 0)))
 
 pub put-session-spec : {M : Type 1} → statement M
 put-session-spec =

@@ -1,6 +1,7 @@
 use native.Mathlib.Nat.{le-refl}
 use borrow.Author.Needs.{needs}
 use lib.ListN.{drop}
+use Rattle.exports.specs.Layout.{begunAt, begunLength}
 use Rattle.exports.specs.Scripts.{stateIn}
 use Rattle.exports.proofs.Sessions.{over-zeros}
 use Rattle.exports.proofs.scripts.session_in.Statement.{statement}
@@ -11,7 +12,7 @@ unfolding stateIn
 returns c =
     let p = c .before .before .before .before .before in
     let s = p .before .before .before .before .args .state .now in
-    rw (c .byte-at2 .ensures, c .before .byte-at .ensures, c .before .before .decode .ensures, c .before .before .before .from2 .ensures, p .put-bytes .ensures, p .before .from .ensures, over-zeros 201 201 (drop 2 s) (le-refl 201))
+    rw (c .byte-at2 .ensures, c .before .byte-at .ensures, c .before .before .decode .ensures, c .before .before .before .from2 .ensures, p .put-bytes .ensures, p .before .from .ensures, over-zeros begunLength begunLength (drop begunAt s) (le-refl begunLength))
 
 pub session-in-spec : {M : Type 1} → statement M
 session-in-spec = tie.close (tie.spec (λ c. search needs) (λ c κs. search needs) (λ c κs. search needs) (λ c κs. search needs) (λ c κs. search needs) (λ c κs. search needs) (λ c κs. search needs) (λ c. search needs) returns)

@@ -1,6 +1,6 @@
 use mathlib.Core.Path.{sym, ap, _∙_}
 use borrow.Author.Needs.{needs}
-use Rattle.process.specs.Form.{changeOf}
+use Rattle.process.specs.InCode.{changeOf}
 use Rattle.process.proofs.RuleLaws.{absorb-at}
 use Rattle.process.proofs.rules.absorb.Statement.{statement}
 use Rattle.process.proofs.rules.absorb.Tie as tie

@@ -1,7 +1,7 @@
 use mathlib.Core.Path.{sym, ap, _∙_}
 use borrow.Author.Needs.{needs}
 use borrow.Author.Tests.{not-true, not-false}
-use Rattle.process.specs.Form.{changeOf}
+use Rattle.process.specs.InCode.{changeOf}
 use Rattle.process.proofs.RuleLaws.{try-shut, try-missing, try-found, searched}
 use Rattle.process.proofs.rules.try_guard.Statement.{statement}
 use Rattle.process.proofs.rules.try_guard.Tie as tie
@@ -16,7 +16,7 @@ returns-2 c =
     let m = c .before .before .before in
     let g = m .before .before in
     let a = g .before .before .before .before .before .args in
-    let found = searched (a .p) _ _ (a .q) _ _ _ (g .guard-at .ensures) (m .first-match .ensures) (c .before .enum-told .given .1) in
+    let found = searched (a .p) _ _ (a .q) _ _ _ (g .guard-at .ensures) (m .kept-match .ensures) (c .before .enum-told .given .1) in
     c .scan-from2 .ensures ∙ sym (ap (changeOf (a .x) (a .y)) (try-missing (a .x) (a .i) (a .y) _ (not-false _ (g .before .before .before .if1 .left)) found))
 
 returns-3 : tie.Need-returns-3
@@ -24,7 +24,7 @@ returns-3 c =
     let m = c .before .before .before .before in
     let g = m .before .before in
     let a = g .before .before .before .before .before .args in
-    let found = searched (a .p) _ _ (a .q) _ _ _ (g .guard-at .ensures) (m .first-match .ensures) (c .before .before .j .given .1) in
+    let found = searched (a .p) _ _ (a .q) _ _ _ (g .guard-at .ensures) (m .kept-match .ensures) (c .before .before .j .given .1) in
     rw (c .at-place .ensures) (sym (ap (changeOf (a .x) (a .y)) (try-found (a .x) (a .i) (a .y) _ _ (not-false _ (g .before .before .before .if1 .left)) found)))
 
 pub try-guard-spec : {M : Type 1} → statement M

@@ -1,44 +1,43 @@
 use Prim.Native.Nat.{_≤_, _-_}
 use mathlib.Core.Logic.{⊎-elim}
 use mathlib.Core.Path.{_≡_, _∙_}
-use mathlib.Core.Bool.{_&&_}
 use native.Mathlib.Omega.{arith}
 use borrow.Author.Needs.{needs}
 use lib.ListN.{length}
-use Rattle.rendezvous.specs.WellFormed.{allBelow, countFits, fitsAt}
+use Rattle.rendezvous.specs.Table.{mostProcesses}
 use Rattle.rendezvous.proofs.Done.{done-both, done-own, step-done}
-use Rattle.rendezvous.proofs.Forms.{formed-start, formed-more, formed-end}
+use Rattle.rendezvous.proofs.Forms.{FormAt, form-start, form-more, form-end}
 use Rattle.rendezvous.proofs.Lengths.{length-mapped}
 use Rattle.rendezvous.proofs.ProcessTable.step.Statement.{statement}
 use Rattle.rendezvous.proofs.ProcessTable.step.Tie as tie
 
 abbrev Inv-loop : tie.InvT-loop
-Inv-loop p t n formed₀ k₀ formed k = (k ≤ n) × (length (t .processes) ≡ 32) × (formed ≡ (countFits n && allBelow (fitsAt t) k))
+Inv-loop p t head form₀ k₀ form k = (k ≤ head .n) × (length (t .processes) ≡ mostProcesses) × FormAt t k form
 
 abbrev μ-loop : tie.MeasureT-loop
-μ-loop p t n formed₀ k₀ formed k = n - k
+μ-loop p t head form₀ k₀ form k = head .n - k
 
 loop-holds : tie.Need-loop-holds Inv-loop μ-loop
-loop-holds c = (omega arith, search length-mapped, formed-start _ _ _ (c .count-fits .ensures))
+loop-holds c = (omega arith, search length-mapped, form-start _ _ (c .form-start .ensures))
 
 loop-again : tie.Need-loop-again Inv-loop μ-loop
 loop-again c =
     let l = c .before .before .before .before .before in (
       omega arith,
       l .loop .inv .1,
-      formed-more _ (l .loop .k) _ _ _ _ (l .loop .inv .1) (omega arith) (l .loop .inv .2) (c .before .before .committed-to .ensures) (c .before .posted-by .ensures) (c .process-fits .ensures),
+      form-more _ (l .loop .k) _ _ _ (l .loop .inv .1) (omega arith) (l .loop .inv .2) (c .before .committed-to .ensures) (c .form-more .ensures),
     )
 
 returns : tie.Need-returns Inv-loop μ-loop
 returns c =
     let s = c .before .before .before in
-    let l = s .before .before .before .before .before .before in
-    let formed = formed-end _ (l .loop .k) _ (omega arith) (l .loop .inv .2) in
-    let does = step-done _ _ _ formed _ _ (s .before .before .before .partner .ensures) (s .step-act .ensures) in
+    let l = s .before .before .before .before .before .before .before in
+    let formed = form-end _ (l .loop .k) _ _ (omega arith) (l .loop .inv .2) (s .before .before .before .before .form-end .ensures) in
+    let does = step-done _ _ _ formed _ _ (s .before .before .partner .ensures) (s .step-act .ensures) in
     ⊎-elim
     (λ a. done-both _ _ _ _ _ _ (a .0 .taken) (a .2 .ensures) (a .3) ∙ does)
     (λ a. done-own _ _ _ _ _ (a .0 .left) (a .1) ∙ does)
-    (c .before .before .if1 .came)
+    (c .before .before .if2 .came)
 
 pub step-spec : {M : Type 1} → statement M
 step-spec =
@@ -56,10 +55,10 @@ step-spec =
     (λ c. omega arith)
     (λ c. omega arith)
     (λ c κs. search needs)
-    (λ c κs. search needs)
     (λ c. omega arith)
     (λ c. omega arith)
     loop-again
+    (λ c κs. search needs)
     (λ c. omega arith)
     (λ c. omega arith)
     (λ c. omega arith)

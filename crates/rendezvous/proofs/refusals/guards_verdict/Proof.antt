@@ -6,15 +6,15 @@ use borrow.Author.Tests.{not-true, not-false}
 use lib.ListN.{length, take, drop}
 use Rattle.alternative.specs.Guards.{blank}
 use Rattle.alternative.proofs.Rest.{rest-at, rest-end}
-use Rattle.rendezvous.specs.declared.Verdict.the-variants.{Accepted}
 use Rattle.rendezvous.specs.Refusals.{requireGuards}
 use Rattle.rendezvous.proofs.refusals.guards_verdict.Statement.{statement}
+use Rattle.rendezvous.specs.declared.Verdict.{Verdict}
 use Rattle.rendezvous.proofs.refusals.guards_verdict.Tie as tie
 
 -- the tests of the whole list give what the tests of the rest give
 abbrev Inv-loop : tie.InvT-loop
 Inv-loop n p count guards k₀ k =
-    (length guards ≡ 8) × (requireGuards n p (take count guards) Accepted ≡ requireGuards n p (drop k (take count guards)) Accepted)
+    (length guards ≡ 8) × (requireGuards n p (take count guards) Verdict.Accepted ≡ requireGuards n p (drop k (take count guards)) Verdict.Accepted)
 
 abbrev μ-loop : tie.MeasureT-loop
 μ-loop n p count guards k₀ k = count - k

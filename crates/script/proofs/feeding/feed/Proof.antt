@@ -1,36 +1,35 @@
 use Prim.Native.Nat.{ℕ, _+_, _-_, _≤_, _<_, _%_}
-use mathlib.Core.Path.{_≡_, sym, _∙_}
+use mathlib.Core.Path.{_≡_, refl, sym, _∙_}
 use mathlib.Core.Logic.{⊎-elim}
-use mathlib.Core.Bool.{_&&_}
 use mathlib.Core.List.{List, [], _∷_, _++_}
 use native.Mathlib.Omega.{arith}
 use borrow.Author.Needs.{needs}
 use lib.ListN.{length, take, getD, set, length-take, length-set}
 use lib.Seq.{getD-take}
-use Rattle.text.proofs.Kept.{put-more, put-none}
+use Rattle.text.proofs.Capped.{put-more, put-none}
 use Rattle.text.specs.Writing.{shown}
-use Rattle.rendezvous.specs.WellFormed.{allBelow, countFits, fitsAt}
+use Rattle.rendezvous.specs.Table.{mostProcesses}
 use Rattle.rendezvous.proofs.Lengths.{length-mapped}
-use Rattle.rendezvous.proofs.Forms.{formed-start, formed-more, formed-end}
+use Rattle.rendezvous.proofs.Forms.{FormAt, form-start, form-more, form-end}
 use Rattle.rendezvous.proofs.Done.{done-both, done-own}
 use Rattle.script.specs.Types.{Reply}
 use Rattle.script.specs.Printing.{endOfLine}
-use Rattle.script.specs.Feeding.{tableOf}
+use Rattle.script.specs.Feeding.{tableIf}
 use Rattle.script.proofs.Lists.{take-most}
 use Rattle.script.proofs.Outputs.{put-end, put-all}
-use Rattle.script.proofs.Turns.{calledBy, line-done, replyAfter, after-new, after-movers, line-turn, Sized, sized-new}
+use Rattle.script.proofs.Turns.{calledBy, line-done, Has, has-called, has-new, has-movers, line-turn, Sized}
 use Rattle.script.proofs.Going.{Going, going-start, going-byte, going-line, going-end}
 use Rattle.script.proofs.feeding.feed.Statement.{statement}
 use Rattle.script.proofs.feeding.feed.Tie as tie
 
 abbrev Inv-loop2 : tie.InvT-loop2
-Inv-loop2 piece out made table bytes held taken filled i b kind number list n next formed₀ k₀ formed k = (k ≤ n) × (length (table .processes) ≡ 32) × (formed ≡ (countFits n && allBelow (fitsAt table) k))
+Inv-loop2 piece out made table bytes held taken filled i b command kind head form₀ k₀ form k = (k ≤ head .n) × (length (table .processes) ≡ mostProcesses) × FormAt table k form
 
 abbrev μ-loop2 : tie.MeasureT-loop2
-μ-loop2 piece out made table bytes held taken filled i b kind number list n next formed₀ k₀ formed k = n - k
+μ-loop2 piece out made table bytes held taken filled i b command kind head form₀ k₀ form k = head .n - k
 
 abbrev Inv-loop : tie.InvT-loop
-Inv-loop piece out₀ made₀ table₀ bytes₀ held₀ taken filled₀ i₀ out made table bytes held filled i = (i ≤ taken) × (held ≤ 201) × (length bytes ≡ 201) × Sized table × Going (record { begun = take held₀ bytes₀; table = tableOf made₀ table₀ }) (take taken piece) out₀ (record { begun = take held bytes; table = tableOf made table }) i out filled
+Inv-loop piece out₀ made₀ table₀ bytes₀ held₀ taken filled₀ i₀ out made table bytes held filled i = (i ≤ taken) × (held ≤ 201) × (length bytes ≡ 201) × Sized table × Going (record { begun = take held₀ bytes₀; table = tableIf made₀ table₀ }) (take taken piece) out₀ (record { begun = take held bytes; table = tableIf made table }) i out filled
 
 abbrev μ-loop : tie.MeasureT-loop
 μ-loop piece out₀ made₀ table₀ bytes₀ held₀ taken filled₀ i₀ out made table bytes held filled i = taken - i
@@ -44,16 +43,26 @@ shared-slice-read-b c = omega (arith, c .before .before .before .least2 .ensures
 slice-aggregate-line-command : tie.Need-slice-aggregate-line-command Inv-loop2 μ-loop2 Inv-loop μ-loop
 slice-aggregate-line-command c = simp length-take (omega arith)
 
+-- the ways back from a line's command to the turn of the loop, from its act to the command, and from the end of the line to the act
+abbrev inTurn : (c : tie.After-heard Inv-loop2 μ-loop2 Inv-loop μ-loop) → tie.In-loop Inv-loop2 μ-loop2 Inv-loop μ-loop
+inTurn c = c .before .before .before .before .before
+
+abbrev atCommand : (c : tie.Joined3 Inv-loop2 μ-loop2 Inv-loop μ-loop) → tie.After-heard Inv-loop2 μ-loop2 Inv-loop μ-loop
+atCommand c = c .before .before .before .before .before .before .before .before .before .before .before .before
+
+abbrev atAct : (c : tie.After-is-new Inv-loop2 μ-loop2 Inv-loop μ-loop) → tie.Joined3 Inv-loop2 μ-loop2 Inv-loop μ-loop
+atAct c = c .before .before .before
+
 -- the loop over the line's records tests the table's form
 loop2-holds : tie.Need-loop2-holds Inv-loop2 μ-loop2 Inv-loop μ-loop
-loop2-holds c = (omega arith, c .before .before .before .before .before .before .before .before .before .loop .inv .3 .records, formed-start _ _ _ (c .count-fits .ensures))
+loop2-holds c = (omega arith, inTurn (c .before .before) .before .loop .inv .3 .records, form-start _ _ (c .form-start .ensures))
 
 loop2-again : tie.Need-loop2-again Inv-loop2 μ-loop2 Inv-loop μ-loop
 loop2-again c =
     let l = c .before .before .before .before .before in (
       omega arith,
       l .loop2 .inv .1,
-      formed-more _ (l .loop2 .k) _ _ _ _ (l .loop2 .inv .1) (omega arith) (l .loop2 .inv .2) (c .before .before .committed-to .ensures) (c .before .posted-by .ensures) (c .process-fits .ensures),
+      form-more _ (l .loop2 .k) _ _ _ (l .loop2 .inv .1) (omega arith) (l .loop2 .inv .2) (c .before .committed-to .ensures) (c .form-more .ensures),
     )
 
 -- there is room for a line
@@ -62,66 +71,61 @@ room c =
     let g = c .before .loop .inv .4 in
     omega (arith, c .before .before .least2 .ensures, g .room, g .long)
 
--- where the kinds meet: the line's act was carried out on the table
-abbrev carriedOut : (c : tie.At-match-came Inv-loop2 μ-loop2 Inv-loop μ-loop) → Reply
+-- the line's act is carried out on the table
+abbrev carriedOut : (c : tie.Joined3 Inv-loop2 μ-loop2 Inv-loop μ-loop) → Reply
 carriedOut c =
-    let act = c .before .before .before .before .line-act .result in
-    let t = c .before .before .before .if2 .table in
-    record { answer = act .answer; table = record { n = t .n; next = act .next; processes = set (t .processes) (c .before .before .before .before .before .before .before .before .before .before .before .before .before .before .line-command .result .number % 32) (act .own) } }
+    let act = c .before .line-act .result in
+    record { answer = act .answer; table = record { head = act .head; processes = set (c .if3 .table .processes) (atCommand c .heard .result .number % mostProcesses) (act .own) } }
 
-called : (c : tie.At-match-came Inv-loop2 μ-loop2 Inv-loop μ-loop) → let p = c .before .before .before .before .before .before .before .before .before .before .before .before .before .before .line-command .result in
-    carriedOut c ≡ calledBy (c .before .before .before .before .before .before .before .before .before .before .before .before .before .before .before .before .before .before .before .loop .table) (c .before .before .before .before .before .before .before .before .before .before .before .before .before .ready .result) (p .number) (p .list)
+called : (c : tie.Joined3 Inv-loop2 μ-loop2 Inv-loop μ-loop) → let p = atCommand c .heard .result in carriedOut c ≡ calledBy (inTurn (atCommand c) .before .loop .table) (p .kind) (p .number) (p .list)
 called c =
     let l = c .before .before .before .before .before .before .before .before .before in
-    let formed = formed-end _ (l .loop2 .k) _ (omega (arith, c .before .before .before .before .before .before .before .before .loop2-test .left)) (l .loop2 .inv .2) in
-    let does = line-done _ _ _ _ _ _ _ formed (c .before .before .before .before .before .before .partner .ensures) (c .before .before .before .before .line-act .ensures) in
-    ⊎-elim (λ a. done-both _ _ _ _ _ _ (a .0 .taken) (a .2 .ensures) (a .3) ∙ does) (λ a. done-own _ _ _ _ _ (a .0 .left) (a .1) ∙ does) (c .before .before .before .if2 .came)
+    let formed = form-end _ (l .loop2 .k) _ _ (omega arith) (l .loop2 .inv .2) (c .before .before .form-end .ensures) in
+    let does = line-done _ _ _ _ _ _ _ formed (c .before .before .before .before .partner .ensures) (c .before .line-act .ensures) in
+    ⊎-elim (λ a. done-both _ _ _ _ _ _ (a .0 .taken) (a .2 .ensures) (a .3) ∙ does) (λ a. done-own _ _ _ _ _ (a .0 .left) (a .1) ∙ does) (c .if3 .came)
 
--- .. and with `n` and `m` it is the reply that the kind asks for
-replied : (c : tie.At-match-came Inv-loop2 μ-loop2 Inv-loop μ-loop) → let p = c .before .before .before .before .before .before .before .before .before .before .before .before .before .before .line-command .result in
-    record { answer = c .match .answer; table = c .match .table } ≡ replyAfter (c .before .before .before .before .before .before .before .before .before .before .before .before .before .before .before .before .before .before .before .loop .table) (c .before .before .before .before .before .before .before .before .before .before .before .before .before .ready .result) (p .number) (p .list)
-replied c =
-    ⊎-elim (λ w. rw (w .4, w .5) (after-new _ _ _ _ _ _ _ (called c) (w .1 .given .1) (w .2 .ensures)))
-    (⊎-elim (λ w. rw (w .3, w .4) (after-movers _ _ _ _ _ _ _ (called c) (w .1 .given .1) (w .2 .ensures)))
-    (⊎-elim (λ w. rw (w .2, w .3, w .1 .given .1) (rw (w .1 .given .1) at (called c)))
-    (⊎-elim (λ w. rw (w .2, w .3, w .1 .given .1) (rw (w .1 .given .1) at (called c)))
-    (⊎-elim (λ w. rw (w .2, w .3, w .1 .given .1) (rw (w .1 .given .1) at (called c)))
-    (λ w. rw (w .2, w .3, w .1 .given .1) (rw (w .1 .given .1) at (called c)))))))
-    (c .match .came)
+-- .. and then what is about the whole table
+has : (c : tie.Joined4 Inv-loop2 μ-loop2 Inv-loop μ-loop) → let h = atCommand (atAct (c .before)) in let p = h .heard .result in
+    let l = inTurn h .before .loop in Has (l .made) (l .table) (p .kind) (p .number) (p .list) (c .if4 .made) (record { answer = c .if4 .answer; table = c .if4 .table })
+has c =
+    let new = c .before .is-new .ensures in
+    let is = called (atAct (c .before)) in
+    ⊎-elim (λ w. rw (w .4, w .5, w .6) (has-new _ _ _ _ _ (carriedOut (atAct (c .before))) is (sym new ∙ w .0 .taken) _ _ (w .1 .ensures) (rw (w .3 .ensures) refl)))
+    (⊎-elim (λ w. rw (w .4, w .5, w .6) (has-movers _ _ _ _ _ (carriedOut (atAct (c .before))) is (sym new ∙ w .0 .left) (sym (w .1 .ensures) ∙ w .2 .taken) _ (w .3 .ensures)))
+    (λ w. rw (w .3, w .4, w .5) (has-called _ _ _ _ _ _ is (sym new ∙ w .0 .left) (sym (w .1 .ensures) ∙ w .2 .left))))
+    (c .if4 .came)
 
-sized-after : (c : tie.At-match-came Inv-loop2 μ-loop2 Inv-loop μ-loop) → Sized (c .match .table)
-sized-after c =
-    let h = c .before .before .before .before .before .before .before .before .before .before .before .before .before .before .before .before .before .before .before .loop .inv .3 in
-    let kept : Sized (carriedOut c .table) = ⊎-elim
-    (λ a. rw (a .3) (record { records = simp length-set (h .records); byte = h .byte }))
-    (λ a. rw (a .1) (record { records = simp length-set (h .records); byte = h .byte }))
-    (c .before .before .before .if2 .came) in
-    ⊎-elim (λ w. rw (w .4) (sized-new _ _ _ kept (w .2 .ensures)))
-    (⊎-elim (λ w. rw (w .3) kept)
-    (⊎-elim (λ w. rw (w .2) kept) (⊎-elim (λ w. rw (w .2) kept) (⊎-elim (λ w. rw (w .2) kept) (λ w. rw (w .2) kept)))))
-    (c .match .came)
+sized : (c : tie.Joined4 Inv-loop2 μ-loop2 Inv-loop μ-loop) → Sized (c .if4 .table)
+sized c =
+    let j = atAct (c .before) in
+    let h = inTurn (atCommand j) .before .loop .inv .3 .records in
+    let long : length (j .if3 .table .processes) ≡ mostProcesses = ⊎-elim (λ a. rw (a .3) (simp length-set h)) (λ a. rw (a .1) h) (j .if3 .came) in
+    let carried : Sized (carriedOut j .table) = record { records = simp length-set long; byte = search needs } in
+    ⊎-elim (λ w. let k = w .1 .ok .1 .1 .1 .0 in rw (w .5) (record { records = search (length-mapped, k); byte = search (needs, k) }))
+    (⊎-elim (λ w. rw (w .5) carried) (λ w. rw (w .4) carried))
+    (c .if4 .came)
 
 loop-less : tie.Need-loop-less Inv-loop2 μ-loop2 Inv-loop μ-loop
-loop-less c = omega (arith, c .before .before .before .before .before .before .before .before .before .before .before .before .before .before .before .before .before .before .before .before .before .before .before .before .loop-test .taken)
+loop-less c = omega (arith, inTurn (atCommand (atAct (c .before .before .before .before .before .before))) .loop-test .taken)
 
 -- a line has ended: its text is put into the output, and the next line begins
 loop-again : tie.Need-loop-again Inv-loop2 μ-loop2 Inv-loop μ-loop
 loop-again c =
-    let u = c .before .before .before in
+    let u = c .before .before in
     let m = u .before .before .before in
-    let v = m .before .before .before .before .before .before .before .before .before .before .before .before .before in
-    let w = m .before .before .before .before .before .before .before .before .before .before .before .before .before .before .before .before .before .before in
+    let h = atCommand (atAct (m .before)) in
+    let w = inTurn h in
     let l = w .before in
     let a = l .before .before .before .before .before .before .before .args in
     let inside : l .loop .i < length (take (l .before .least2 .result) (a .piece .now)) = simp length-take (omega (arith, w .loop-test .taken, l .before .least2 .ensures)) in
     let text = shown (u .before .printed-line .result) in
-    let told = line-turn (l .loop .made) (l .loop .table) _ (take (l .loop .held) (l .loop .bytes)) (v .before .line-command .result) (v .ready .result) _ _ (v .before .line-command .ensures) (v .ready .ensures) (replied m) (u .before .printed-line .ensures) (c .made-after .ensures) in (
+    let told = line-turn (l .loop .made) (l .loop .table) (take (l .loop .held) (l .loop .bytes)) _ _ _ _ _ (h .before .line-command .ensures) (h .heard .ensures) (has m) (u .before .printed-line .ensures) in (
       omega (arith, w .loop-test .taken),
       omega arith,
       l .loop .inv .2,
-      sized-after m,
+      sized m,
       going-line _ _ _ _ (l .loop .i) _ _ _ (l .loop .inv .4) inside (sym (getD-take (l .before .least2 .result) (a .piece .now) (l .loop .i) 0 (omega (arith, w .loop-test .taken)))) _ _ _ _
-          (v .before .before .before .if1 .taken) told (room w) (put-end (l .loop .filled) text (l .loop .out) _ (room w) (u .put .ensures .0)) (put-all (l .loop .filled) text (l .loop .out) _ _ (room w) (u .put .ensures .0) (u .put .ensures .1)),
+          (h .before .before .before .if1 .taken) told (room w) (put-end (l .loop .filled) text (l .loop .out) _ (room w) (u .put .ensures .0)) (put-all (l .loop .filled) text (l .loop .out) _ _ (room w) (u .put .ensures .0) (u .put .ensures .1)),
     )
 
 -- a byte that does not end the line
@@ -195,7 +199,6 @@ feed-spec =
     (λ c. omega arith)
     (λ c. omega arith)
     (λ c κs. search needs)
-    (λ c κs. search needs)
     (λ c. omega arith)
     (λ c. omega arith)
     loop2-again
@@ -207,6 +210,7 @@ feed-spec =
     (λ c. omega arith)
     (λ c. omega arith)
     (λ c κs. search needs)
+    (λ c κs. search needs)
     (λ c. omega arith)
     (λ c. omega arith)
     (λ c κs. search needs)
@@ -214,14 +218,10 @@ feed-spec =
     (λ c. omega arith)
     (λ c. omega arith)
     (λ c. omega arith)
-    (λ c. search needs)
     (λ c κs. search needs)
-    (λ c. search needs)
     (λ c κs. search needs)
-    (λ c. search needs)
-    (λ c. search needs)
-    (λ c. search needs)
-    (λ c. search needs)
+    (λ c κs. search needs)
+    (λ c κs. search needs)
     (λ c κs. search needs)
     (λ c κs. search needs)
     (λ c κs. search needs)

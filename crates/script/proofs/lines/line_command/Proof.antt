@@ -6,7 +6,7 @@ use Rattle.script.proofs.lines.line_command.Tie as tie
 
 returns : tie.Need-returns
 unfolding lineCommand
-returns c = rw (lt-leb _ _ (c .before .if1 .taken)) (c .malformed .ensures)
+returns c = rw (lt-leb _ _ (c .before .if1 .taken)) (c .plain-command .ensures)
 
 returns-2 : tie.Need-returns-2
 unfolding lineCommand

@@ -2,7 +2,7 @@ use mathlib.Core.Path.{_≡_, sym, _∙_}
 use mathlib.Core.List.{append-assoc, append-nil}
 use borrow.Author.Needs.{needs}
 use lib.ListN.{length}
-use Rattle.text.proofs.Kept.{kept-kept, kept-shown}
+use Rattle.text.proofs.Capped.{capped-capped, capped-shown}
 use Rattle.script.specs.Printing.{answerText}
 use Rattle.script.proofs.printing.answer_text.Statement.{statement}
 use Rattle.script.proofs.printing.answer_text.Tie as tie
@@ -12,25 +12,25 @@ unfolding answerText
 returns c =
     let t = c .before .before .args .command in
     let h : length (t .bytes) ≡ 64 = search needs in
-    rw (c .enum-told .given .1) (sym (kept-shown t h) ∙ simp append-nil)
+    rw (c .enum-told .given .1) (sym (capped-shown t h) ∙ simp append-nil)
 
 returns-2 : tie.Need-returns-2
 unfolding answerText
-returns-2 c = rw (c .before .before .before .before .answer .given .1) (simp (c .decimal .ensures, c .before .byte2 .ensures, c .before .before .byte .ensures, kept-kept, append-assoc))
+returns-2 c = rw (c .before .before .before .before .answer .given .1) (simp (c .decimal .ensures, c .before .byte2 .ensures, c .before .before .byte .ensures, capped-capped, append-assoc))
 
 returns-3 : tie.Need-returns-3
 returns-3 c = rw (c .before .before .answer2 .given .1) (c .place-text .ensures)
 
 returns-4 : tie.Need-returns-4
 unfolding answerText
-returns-4 c = rw (c .before .before .enum-told2 .given .1) (simp (c .byte4 .ensures, c .before .byte3 .ensures, kept-kept, append-assoc))
+returns-4 c = rw (c .before .before .enum-told2 .given .1) (simp (c .byte4 .ensures, c .before .byte3 .ensures, capped-capped, append-assoc))
 
 returns-5 : tie.Need-returns-5
 returns-5 c = rw (c .before .before .answer3 .given .1) (c .outcome-text .ensures)
 
 returns-6 : tie.Need-returns-6
 unfolding answerText
-returns-6 c = rw (c .before .before .before .answer4 .given .1) (simp (c .hex .ensures, c .before .byte5 .ensures, kept-kept, append-assoc))
+returns-6 c = rw (c .before .before .before .answer4 .given .1) (simp (c .hex .ensures, c .before .byte5 .ensures, capped-capped, append-assoc))
 
 returns-7 : tie.Need-returns-7
 unfolding answerText

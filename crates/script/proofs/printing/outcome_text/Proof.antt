@@ -1,6 +1,6 @@
 use mathlib.Core.List.{append-assoc}
 use borrow.Author.Needs.{needs}
-use Rattle.text.proofs.Kept.{kept-kept}
+use Rattle.text.proofs.Capped.{capped-capped}
 use Rattle.script.specs.Printing.{answerText}
 use Rattle.script.proofs.printing.outcome_text.Statement.{statement}
 use Rattle.script.proofs.printing.outcome_text.Tie as tie
@@ -10,7 +10,7 @@ unfolding answerText
 returns c =
     let q = c .before .before in
     let i = q .before .before in
-    simp (c .message-text .ensures, c .before .byte3 .ensures, q .decimal2 .ensures, q .before .byte2 .ensures, i .decimal .ensures, i .before .byte .ensures, kept-kept, append-assoc)
+    simp (c .message-text .ensures, c .before .byte3 .ensures, q .decimal2 .ensures, q .before .byte2 .ensures, i .decimal .ensures, i .before .byte .ensures, capped-capped, append-assoc)
 
 pub outcome-text-spec : {M : Type 1} → statement M
 outcome-text-spec =

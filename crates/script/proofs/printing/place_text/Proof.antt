@@ -2,7 +2,7 @@ use mathlib.Core.Path.{_≡_, sym, _∙_}
 use mathlib.Core.List.{append-assoc}
 use mathlib.Core.Option.{some, none}
 use borrow.Author.Needs.{needs}
-use Rattle.text.proofs.Kept.{kept-kept}
+use Rattle.text.proofs.Capped.{capped-capped}
 use Rattle.process.specs.Process.{indexOf}
 use Rattle.script.specs.Printing.{answerText}
 use Rattle.script.proofs.Texts.{found-none, found-some}
@@ -16,7 +16,7 @@ returns c =
     let t = i .before in
     let e : indexOf (t .before .before .before .args .place) ≡ none = found-none _ (sym (i .index .ensures) ∙ c .enum-told .given .1) in
     rw e
-    (simp (t .byte2 .ensures, t .before .letter .ensures, t .before .before .byte .ensures, kept-kept, append-assoc))
+    (simp (t .byte2 .ensures, t .before .letter .ensures, t .before .before .byte .ensures, capped-capped, append-assoc))
 
 returns-2 : tie.Need-returns-2
 unfolding answerText
@@ -25,7 +25,7 @@ returns-2 c =
     let t = i .before in
     let e : indexOf (t .before .before .before .args .place) ≡ some (c .before .before .i .given .0 .0) = found-some _ _ (sym (i .index .ensures) ∙ c .before .before .i .given .1) in
     rw e
-    (simp (c .decimal .ensures, t .byte2 .ensures, t .before .letter .ensures, t .before .before .byte .ensures, kept-kept, append-assoc))
+    (simp (c .decimal .ensures, t .byte2 .ensures, t .before .letter .ensures, t .before .before .byte .ensures, capped-capped, append-assoc))
 
 pub place-text-spec : {M : Type 1} → statement M
 place-text-spec =

@@ -2,7 +2,7 @@ use Prim.Native.Char.{code}
 use native.Mathlib.Omega.{arith}
 use borrow.Author.Needs.{needs}
 use Rattle.script.specs.Private.{lineText}
-use Rattle.script.proofs.Texts.{line-text, number-length, letter-kept}
+use Rattle.script.proofs.Texts.{line-text, number-length, letter-capped}
 use Rattle.script.proofs.printing.printed_line.Statement.{statement}
 use Rattle.script.proofs.printing.printed_line.Tie as tie
 
@@ -28,7 +28,7 @@ returns-5 c = rw (c .before .before .enum-told5 .given .1) (line-text _ _ (numbe
 
 returns-6 : tie.Need-returns-6
 unfolding lineText
-returns-6 c = rw (c .before .before .before .enum-told6 .given .1) (line-text _ _ (omega arith) (letter-kept _ (c .before .before .empty .ensures) (c .before .byte .ensures)) (c .answer-line5 .ensures))
+returns-6 c = rw (c .before .before .before .enum-told6 .given .1) (line-text _ _ (omega arith) (letter-capped _ (c .before .before .empty .ensures) (c .before .byte .ensures)) (c .answer-line5 .ensures))
 
 pub printed-line-spec : {M : Type 1} → statement M
 printed-line-spec =

@@ -1,5 +1,5 @@
 use mathlib.Core.Path.{_≡_, subst}
-use mathlib.Core.Bool.{Bool, true, false}
+use mathlib.Core.Bool.{true, false}
 use lib.IntN.{ℤ, pos}
 use lib.Signed.{ltZ}
 use mir.Facts.{toZ-ofZ}

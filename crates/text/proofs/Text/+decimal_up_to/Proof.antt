@@ -4,8 +4,8 @@ use mathlib.Core.Path.{sym, _∙_, ap}
 use mathlib.Core.List.{List, [], _∷_, _++_}
 use native.Mathlib.Omega.{arith}
 use borrow.Author.Needs.{needs}
-use Rattle.text.specs.Writing.{decimalUpTo, shown, kept}
-use Rattle.text.proofs.Kept.{kept-then}
+use Rattle.text.specs.Writing.{decimalUpTo, shown, capped}
+use Rattle.text.proofs.Capped.{capped-then}
 use Rattle.text.proofs.Printed.{glyph-decimal, decimal-last, decimal-small, decimal-large}
 use borrow.Fn.Kinds.{In}
 use borrow.Fn.PlainCycle.{Measures, is, falls, and}
@@ -40,25 +40,25 @@ decimal-up-to-returns : (t : ℕ) → decimal-up-to-lts.Need-returns (claims t) 
 decimal-up-to-returns t c =
     let a = c .before .before .before .args in
     c .byte .ensures
-    ∙ ap (λ (b : ℕ). kept (shown (a .self) ++ b ∷ [])) (c .before .glyph .ensures ∙ glyph-decimal (a .n % 10) (omega arith))
-    ∙ ap (λ (l : List ℕ). kept (shown (a .self) ++ l)) (sym (decimal-last (a .k) (a .n) (c .before .before .if1 .taken)))
+    ∙ ap (λ (b : ℕ). capped (shown (a .self) ++ b ∷ [])) (c .before .glyph .ensures ∙ glyph-decimal (a .n % 10) (omega arith))
+    ∙ ap (λ (l : List ℕ). capped (shown (a .self) ++ l)) (sym (decimal-last (a .k) (a .n) (c .before .before .if1 .taken)))
 
 decimal-up-to-returns-2 : (t : ℕ) → decimal-up-to-lts.Need-returns-2 (claims t) (decimal-up-to-at t) decimal-up-to.Post
 decimal-up-to-returns-2 t c =
     let a = c .before .before .before .before .args in
     c .byte2 .ensures
-    ∙ ap (λ (b : ℕ). kept (shown (a .self) ++ b ∷ [])) (c .before .glyph2 .ensures ∙ glyph-decimal (a .n) (omega arith))
-    ∙ ap (λ (l : List ℕ). kept (shown (a .self) ++ l)) (sym (decimal-small (a .k) (a .n) (c .before .before .before .if1 .left) (omega arith)))
+    ∙ ap (λ (b : ℕ). capped (shown (a .self) ++ b ∷ [])) (c .before .glyph2 .ensures ∙ glyph-decimal (a .n) (omega arith))
+    ∙ ap (λ (l : List ℕ). capped (shown (a .self) ++ l)) (sym (decimal-small (a .k) (a .n) (c .before .before .before .if1 .left) (omega arith)))
 
 decimal-up-to-returns-3 : (t : ℕ) → decimal-up-to-lts.Need-returns-3 (claims t) (decimal-up-to-at t) decimal-up-to.Post
 decimal-up-to-returns-3 t c =
     let a = c .before .before .before .before .before .args in
     let front = decimalUpTo (a .k - 1) (a .n / 10) in
     c .byte3 .ensures
-    ∙ ap (λ (b : ℕ). kept (shown (c .before .before .decimal-up-to .result) ++ b ∷ [])) (c .before .glyph3 .ensures ∙ glyph-decimal (a .n % 10) (omega arith))
-    ∙ ap (λ (l : List ℕ). kept (l ++ (code "0" + a .n % 10) ∷ [])) (c .before .before .decimal-up-to .ensures)
-    ∙ kept-then (shown (a .self)) front ((code "0" + a .n % 10) ∷ [])
-    ∙ ap (λ (l : List ℕ). kept (shown (a .self) ++ l)) (sym (decimal-large (a .k) (a .n) (c .before .before .before .before .if1 .left) (omega arith)))
+    ∙ ap (λ (b : ℕ). capped (shown (c .before .before .decimal-up-to .result) ++ b ∷ [])) (c .before .glyph3 .ensures ∙ glyph-decimal (a .n % 10) (omega arith))
+    ∙ ap (λ (l : List ℕ). capped (l ++ (code "0" + a .n % 10) ∷ [])) (c .before .before .decimal-up-to .ensures)
+    ∙ capped-then (shown (a .self)) front ((code "0" + a .n % 10) ∷ [])
+    ∙ ap (λ (l : List ℕ). capped (shown (a .self) ++ l)) (sym (decimal-large (a .k) (a .n) (c .before .before .before .before .if1 .left) (omega arith)))
 
 pub +decimal-up-to-spec : {M : Type 1} → statement M
 +decimal-up-to-spec = close μ-decimal-up-to λ t. decimal-up-to-lts.spec (claims t)

@@ -3,8 +3,8 @@ use mathlib.Core.Path.{_≡_, sym, _∙_, ap}
 use mathlib.Core.List.{List, [], _∷_, _++_}
 use borrow.Author.Needs.{needs}
 use lib.ListN.{length}
-use Rattle.text.specs.Writing.{hexGlyph, hexUpTo, shown, kept}
-use Rattle.text.proofs.Kept.{kept-shown, kept-then}
+use Rattle.text.specs.Writing.{hexGlyph, hexUpTo, shown, capped}
+use Rattle.text.proofs.Capped.{capped-shown, capped-then}
 use Rattle.text.proofs.Printed.{hex-none, hex-last}
 use borrow.Fn.Kinds.{In}
 use borrow.Fn.PlainCycle.{Measures, is, falls, and}
@@ -34,17 +34,17 @@ hex-up-to-returns : (t : ℕ) → hex-up-to-lts.Need-returns (claims t) (hex-up-
 hex-up-to-returns t c =
     let a = c .before .args in
     let h : length (a .self .bytes) ≡ 64 = search needs in
-    sym (ap (λ (l : List ℕ). kept (shown (a .self) ++ l)) (hex-none (a .digits) (a .n) (c .if1 .taken)) ∙ kept-shown (a .self) h)
+    sym (ap (λ (l : List ℕ). capped (shown (a .self) ++ l)) (hex-none (a .digits) (a .n) (c .if1 .taken)) ∙ capped-shown (a .self) h)
 
 hex-up-to-returns-2 : (t : ℕ) → hex-up-to-lts.Need-returns-2 (claims t) (hex-up-to-at t) hex-up-to.Post
 hex-up-to-returns-2 t c =
     let a = c .before .before .before .before .args in
     let d = hexGlyph (a .n % 16) in
     c .byte .ensures
-    ∙ ap (λ (b : ℕ). kept (shown (c .before .before .hex-up-to .result) ++ b ∷ [])) (c .before .glyph .ensures)
-    ∙ ap (λ (l : List ℕ). kept (l ++ d ∷ [])) (c .before .before .hex-up-to .ensures)
-    ∙ kept-then (shown (a .self)) (hexUpTo (a .digits - 1) (a .n / 16)) (d ∷ [])
-    ∙ ap (λ (l : List ℕ). kept (shown (a .self) ++ l)) (sym (hex-last (a .digits) (a .n) (c .before .before .before .if1 .left)))
+    ∙ ap (λ (b : ℕ). capped (shown (c .before .before .hex-up-to .result) ++ b ∷ [])) (c .before .glyph .ensures)
+    ∙ ap (λ (l : List ℕ). capped (l ++ d ∷ [])) (c .before .before .hex-up-to .ensures)
+    ∙ capped-then (shown (a .self)) (hexUpTo (a .digits - 1) (a .n / 16)) (d ∷ [])
+    ∙ ap (λ (l : List ℕ). capped (shown (a .self) ++ l)) (sym (hex-last (a .digits) (a .n) (c .before .before .before .if1 .left)))
 
 pub +hex-up-to-spec : {M : Type 1} → statement M
 +hex-up-to-spec = close μ-hex-up-to λ t. hex-up-to-lts.spec (claims t)

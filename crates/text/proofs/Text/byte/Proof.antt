@@ -2,20 +2,20 @@ use mathlib.Core.Path.{_≡_}
 use native.Mathlib.Omega.{arith}
 use borrow.Author.Needs.{needs}
 use lib.ListN.{length}
-use Rattle.text.specs.Writing.{shown, kept}
-use Rattle.text.proofs.Kept.{put-more, put-none}
+use Rattle.text.specs.Writing.{shown, capped}
+use Rattle.text.proofs.Capped.{put-more, put-none}
 use Rattle.text.proofs.Text.byte.Statement.{statement}
 use Rattle.text.proofs.Text.byte.Tie as tie
 
 returns : tie.Need-returns
-unfolding shown kept
+unfolding shown capped
 returns c =
     let t = c .before .args .t1 in
     let h : length (t .bytes) ≡ 64 = search needs in
     put-more (t .bytes) 64 (t .length) (c .before .args .b) h (omega arith)
 
 returns-2 : tie.Need-returns-2
-unfolding shown kept
+unfolding shown capped
 returns-2 c =
     let t = c .before .args .t1 in
     let h : length (t .bytes) ≡ 64 = search needs in

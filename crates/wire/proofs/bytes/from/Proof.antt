@@ -14,14 +14,4 @@ returns-2 : tie.Need-returns-2
 returns-2 c = let l = c .before .before .args .bytes .now in rw (drop-length, take-nil) (sym (drop-of-length-le l (c .before .if1 .left)))
 
 pub from-spec : {M : Type 1} → statement M
-from-spec =
-    tie.close
-    (tie.spec
-    (λ c. search needs)
-    (λ c. search needs)
-    (λ c. search needs)
-    returns
-    (λ c. search needs)
-    (λ c. search needs)
-    (λ c. search needs)
-    returns-2)
+from-spec = tie.close (tie.spec (λ c. search needs) (λ c. search needs) (λ c. search needs) returns (λ c. search needs) (λ c. search needs) (λ c. search needs) returns-2)

@@ -9,9 +9,4 @@ unfolding wordBytes
 returns c = refl
 
 pub word-bytes-spec : {M : Type 1} → statement M
-word-bytes-spec = tie.close (tie.spec
-    (λ c. search needs)
-    (λ c. search needs)
-    (λ c. search needs)
-    (λ c. search needs)
-    returns)
+word-bytes-spec = tie.close (tie.spec (λ c. search needs) (λ c. search needs) (λ c. search needs) (λ c. search needs) returns)

@@ -18,10 +18,4 @@ returns-2 c =
     rw (c .message-of .ensures, c .before .from .ensures) (sym (last-action s h))
 
 pub action-of-spec : {M : Type 1} → statement M
-action-of-spec =
-    tie.close (tie.spec
-    (λ c κs. search needs)
-    (λ c κs. search needs)
-    (λ c κs. search needs)
-    returns
-    returns-2)
+action-of-spec = tie.close (tie.spec (λ c κs. search needs) (λ c κs. search needs) (λ c κs. search needs) returns returns-2)

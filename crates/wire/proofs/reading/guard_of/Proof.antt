@@ -8,11 +8,4 @@ unfolding guardOf
 returns c = rw (c .before .byte-at .ensures, c .byte-at2 .ensures, c .before .before .action-of .ensures, c .before .before .before .from .ensures)
 
 pub guard-of-spec : {M : Type 1} → statement M
-guard-of-spec =
-    tie.close
-    (tie.spec
-    (λ c κs. search needs)
-    (λ c κs. search needs)
-    (λ c κs. search needs)
-    (λ c κs. search needs)
-    returns)
+guard-of-spec = tie.close (tie.spec (λ c κs. search needs) (λ c κs. search needs) (λ c κs. search needs) (λ c κs. search needs) returns)

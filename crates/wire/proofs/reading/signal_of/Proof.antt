@@ -18,12 +18,4 @@ returns-2 c =
     rw (c .message-of .ensures, c .before .from .ensures, c .before .before .byte-at2 .ensures) (sym (last-signal s h))
 
 pub signal-of-spec : {M : Type 1} → statement M
-signal-of-spec =
-    tie.close
-    (tie.spec
-    (λ c κs. search needs)
-    (λ c κs. search needs)
-    (λ c κs. search needs)
-    (λ c κs. search needs)
-    returns
-    returns-2)
+signal-of-spec = tie.close (tie.spec (λ c κs. search needs) (λ c κs. search needs) (λ c κs. search needs) (λ c κs. search needs) returns returns-2)

@@ -54,10 +54,4 @@ returns-2 : tie.Need-returns-2
 returns-2 c = ap natAbs (back (c .before)) ∙ bits-above (c .before .args .x) (positive c)
 
 pub bits-of-whole-spec : {M : Type 1} → statement M
-bits-of-whole-spec = tie.close (tie.spec
-    sub-w
-    cast-w
-    sub-result
-    cast-result
-    returns
-    returns-2)
+bits-of-whole-spec = tie.close (tie.spec sub-w cast-w sub-result cast-result returns returns-2)

@@ -16,10 +16,4 @@ returns-2 : tie.Need-returns-2
 returns-2 c = toZ-ofZ (sub-result c) ∙ below-zero (c .before .args .bits) (c .if1 .left) (omega arith)
 
 pub whole-of-spec : {M : Type 1} → statement M
-whole-of-spec = tie.close (tie.spec
-    (λ c. search needs)
-    (λ c. search needs)
-    (λ c. search needs)
-    sub-result
-    (λ c. search needs)
-    returns-2)
+whole-of-spec = tie.close (tie.spec (λ c. search needs) (λ c. search needs) (λ c. search needs) sub-result (λ c. search needs) returns-2)

@@ -12,13 +12,4 @@ unfolding guardBytes actionBytes
 returns-2 c = rw (c .three-and-message2 .ensures, c .before .before .before .before .flag-byte .ensures, c .before .before .action .given .1)
 
 pub guard-bytes-spec : {M : Type 1} → statement M
-guard-bytes-spec =
-    tie.close
-    (tie.spec
-    (λ c κs. search needs)
-    (λ c. search needs)
-    (λ c κs. search needs)
-    (λ c. search needs)
-    (λ c κs. search needs)
-    returns
-    returns-2)
+guard-bytes-spec = tie.close (tie.spec (λ c κs. search needs) (λ c. search needs) (λ c κs. search needs) (λ c. search needs) (λ c κs. search needs) returns returns-2)

@@ -1,12 +1,15 @@
-use mathlib.Core.Path.{_≡_, refl, sym, ap, _∙_}
+use mathlib.Core.Path.{_≡_, sym, ap, _∙_}
 use borrow.Author.Needs.{needs, length-unmapped}
-use lib.ListN.{length}
-use Rattle.wire.specs.Writing.{guardsBytes}
-use Rattle.wire.proofs.Parts.{process-laid}
+use lib.ListN.{length, replicate}
+use Rattle.wire.specs.Layout.{guardsLength, recordLength}
+use Rattle.wire.specs.Writing.{processParts, guardsBytes, processBytes}
+use Rattle.wire.proofs.Lengths.{word-length, place-length, signal-length, parts-length}
+use Rattle.wire.proofs.Parts.{laid-whole}
 use Rattle.wire.proofs.writing.process_bytes.Statement.{statement}
 use Rattle.wire.proofs.writing.process_bytes.Tie as tie
 
 returns : tie.Need-returns
+unfolding processBytes
 returns c =
     let p6 = c .before in
     let g6 = p6 .before .before .before in
@@ -21,10 +24,10 @@ returns c =
     let p1 = g2 .before .before in
     let g1 = p1 .before .before .before in
     let x = g1 .before .args .x in
-    let own : length (guardsBytes (x .guards)) ≡ 96 = ap length (sym (g5 .guards-bytes .ensures)) ∙ search (length-unmapped, g5 .guards-bytes .ok) in
-    let posted : length (guardsBytes (x .altlist)) ≡ 96 = ap length (sym (g6 .guards-bytes2 .ensures)) ∙ search (length-unmapped, g6 .guards-bytes2 .ok) in
+    let own : length (guardsBytes (x .guards)) ≡ guardsLength = ap length (sym (g5 .guards-bytes .ensures)) ∙ search (length-unmapped, g5 .guards-bytes .ok) in
+    let posted : length (guardsBytes (x .altlist)) ≡ guardsLength = ap length (sym (g6 .guards-bytes2 .ensures)) ∙ search (length-unmapped, g6 .guards-bytes2 .ok) in
     rw (p6 .put-bytes6 .ensures, g6 .guards-bytes2 .ensures, p5 .put-bytes5 .ensures, g5 .guards-bytes .ensures, p4 .put-bytes4 .ensures, g4 .flag-byte .ensures, p3 .put-bytes3 .ensures, g3 .word-bytes .ensures, p2 .put-bytes2 .ensures, g2 .signal-bytes .ensures, p1 .put-bytes .ensures, g1 .place-bytes .ensures)
-    (process-laid x _ refl own posted)
+    (rw (place-length (x .place), signal-length (x .signal), word-length (x .transaction .0), own) at (laid-whole (processParts x) (replicate recordLength 0) (parts-length x own posted)))
 
 pub process-bytes-spec : {M : Type 1} → statement M
 process-bytes-spec =

@@ -12,12 +12,4 @@ unfolding signalBytes
 returns-2 c = rw (c .before .before .signal .given .1) (c .two-and-message2 .ensures)
 
 pub signal-bytes-spec : {M : Type 1} → statement M
-signal-bytes-spec =
-    tie.close
-    (tie.spec
-    (λ c. search needs)
-    (λ c κs. search needs)
-    (λ c. search needs)
-    (λ c κs. search needs)
-    returns
-    returns-2)
+signal-bytes-spec = tie.close (tie.spec (λ c. search needs) (λ c κs. search needs) (λ c. search needs) (λ c κs. search needs) returns returns-2)

@@ -1,0 +1,37 @@
+-- To be believed. How many bytes an answer and a session take, and where in them each part stands. A part without a name here is one byte, and stands behind the one
+-- before it.
+use Prim.Native.Nat.{suc, _+_}
+use Rattle.script.specs.Lines.{mostBytes}
+use Rattle.wire.specs.Layout.{wordLength, messageLength, tableLength}
+use Rattle.exports.specs.Types.{ℕ, _≡_}
+
+-- an answer: its kind, two bytes, a message, a word
+abbrev pub messageAt : ℕ
+messageAt = 3
+
+abbrev pub wordAt : ℕ
+wordAt = messageAt + messageLength
+
+abbrev pub answerLength : ℕ
+answerLength = wordAt + wordLength
+
+-- a session: whether a table was made, how many bytes the begun line has, room for as many as it may have, the table
+abbrev pub begunAt : ℕ
+begunAt = 2
+
+abbrev pub begunLength : ℕ
+begunLength = suc mostBytes
+
+abbrev pub tableAt : ℕ
+tableAt = begunAt + begunLength
+
+abbrev pub sessionLength : ℕ
+sessionLength = tableAt + tableLength
+
+-- what a line of a script prints at most
+abbrev pub lineLength : ℕ
+lineLength = 64
+
+-- the numbers that docs/BYTES.md gives
+abbrev pub AnswerAndSession : Type 0
+AnswerAndSession = (answerLength ≡ 16) × (sessionLength ≡ 7312)

@@ -1,0 +1,54 @@
+-- A good table is well-formed.
+use Prim.Native.Nat.{ℕ, zero, suc}
+use mathlib.Core.Path.{_≡_, refl, subst}
+use mathlib.Core.Bool.{Bool, true, _&&_}
+use mathlib.Core.Option.{some}
+use Rattle.alternative.specs.declared.Message.{Message}
+use native.Mathlib.Omega.{arith}
+use lib.Dec.{ltb}
+use borrow.Author.Tests.{le-leb}
+use Rattle.process.specs.declared.Place.{Place}
+use Rattle.process.specs.Process.{indexOf, ifMet, ownGuard}
+use Rattle.process.specs.Rules.{partnerOf}
+use Rattle.process.proofs.PlaceCases.{by-carried}
+use Rattle.process.specs.Fits.{placeFits, processFits}
+use Rattle.rendezvous.specs.declared.ProcessTable.{ProcessTable}
+use Rattle.rendezvous.specs.Table.{process}
+use Rattle.rendezvous.specs.WellFormed.{allBelow, countFits, fitsAt, wellFormed}
+use Rattle.history.proofs.Invariant.{Good}
+use Rattle.history.proofs.Matches.{match}
+use Rattle.history.proofs.Facts.{at-on, shown, commit-binds}
+use Rattle.history.proofs.Formed.{on-below}
+
+both : (a b : Bool) → a ≡ true → b ≡ true → (a && b) ≡ true
+both a b e f = rw (e, f)
+
+all-below : (test : ℕ → Bool) (n : ℕ) → ((k : ℕ) → test k ≡ true) → allBelow test n ≡ true
+unfolding allBelow
+all-below test zero h = refl
+all-below test (suc n) h = rw (all-below test n h, h n)
+
+module _ (t : ProcessTable) (good : Good t) where
+  place-fits : (p : ℕ) → placeFits (process t p .count) (process t (partnerOf (process t p)) .altcount) (process t p .place) ≡ true
+  place-fits p = by-carried (λ fits. fits ≡ true) true _ _ _ (process t p .place) refl own (λ i j e. rw (own i (rw e refl), kept i j e)) (λ i m e. outcome i m e)
+    where
+      own : (i : ℕ) → indexOf (process t p .place) ≡ some i → ltb i (process t p .count) ≡ true
+      own i e = on-below (process t p .guards) (process t p .count) i (at-on (process t) (good .inv) p i e)
+
+      -- the partner shows its list
+      kept : (i j : ℕ) → process t p .place ≡ Place.Committed i j → ltb j (process t (partnerOf (process t p)) .altcount) ≡ true
+      kept i j e =
+          let q = ownGuard (process t p) i .partner in
+          let b = commit-binds (process t) (good .inv) p i j e in
+          rw e (on-below (process t q .altlist) (process t q .altcount) j (rw (shown (process t) (good .inv) q (b .0 .shows) .posted) (match (b .1) .there)))
+
+      outcome : (i : ℕ) (m : Message) → process t p .place ≡ Place.Met i m → ltb i (process t p .count) ≡ true
+      outcome i m e = subst (λ (l : Place). ifMet (Unit {0}) (λ i m. ltb i (process t p .count) ≡ true) l) e (good .formed p .outcome)
+
+  process-fits : (p : ℕ) → fitsAt t p ≡ true
+  unfolding fitsAt processFits
+  process-fits p = rw (good .inv .alone p .own, good .formed p .posted, good .formed p .signal) (place-fits p)
+
+  pub well-formed : wellFormed t ≡ true
+  unfolding wellFormed countFits
+  well-formed = both _ _ (both _ _ (le-leb 2 (t .head .n) (good .least)) (le-leb (t .head .n) _ (omega (arith, good .most)))) (all-below (fitsAt t) (t .head .n) process-fits)

@@ -1,0 +1,28 @@
+-- By what a place carries: what holds of what is said of each case holds of what is said of the place.
+use Prim.Native.Nat.{ℕ}
+use mathlib.Core.Path.{_≡_, refl}
+use mathlib.Core.Option.{some}
+use Rattle.alternative.specs.declared.Message.{Message}
+use Rattle.process.specs.declared.Place.{Place}
+use Rattle.process.specs.Process.{carried, indexOf, ifMet, ifCommitted}
+
+module _ {A : Type 0} (P : A → Type 0) (other : A) where
+  pub by-carried : (index : ℕ → A) (kept : ℕ → ℕ → A) (outcome : ℕ → Message → A) (place : Place) → P other → ((i : ℕ) → indexOf place ≡ some i → P (index i))
+      → ((i j : ℕ) → place ≡ Place.Committed i j → P (kept i j)) → ((i : ℕ) (m : Message) → place ≡ Place.Met i m → P (outcome i m)) → P (carried other index kept outcome place)
+  by-carried index kept outcome Place.Idle o h k l = o
+  by-carried index kept outcome Place.Entering o h k l = o
+  by-carried index kept outcome (Place.Scanning i) o h k l = h i refl
+  by-carried index kept outcome (Place.Trying i) o h k l = h i refl
+  by-carried index kept outcome (Place.Committed i j) o h k l = k i j refl
+  by-carried index kept outcome Place.Posting o h k l = o
+  by-carried index kept outcome Place.Opening o h k l = o
+  by-carried index kept outcome Place.Showing o h k l = o
+  by-carried index kept outcome Place.Asleep o h k l = o
+  by-carried index kept outcome Place.Waiting o h k l = o
+  by-carried index kept outcome (Place.Met i m) o h k l = l i m refl
+
+  pub if-met : (met : ℕ → Message → A) (place : Place) → ((i : ℕ) (m : Message) → place ≡ Place.Met i m → P (met i m)) → P other → P (ifMet other met place)
+  if-met met place h o = by-carried (λ i. other) (λ i j. other) met place o (λ i e. o) (λ i j e. o) h
+
+  pub if-committed : (committed : ℕ → ℕ → A) (place : Place) → ((i j : ℕ) → place ≡ Place.Committed i j → P (committed i j)) → P other → P (ifCommitted other committed place)
+  if-committed committed place h o = by-carried (λ i. other) committed (λ i m. other) place o (λ i e. o) h (λ i m e. o)

@@ -1,0 +1,32 @@
+-- To be believed. Refusal 7 for code that keeps a table in its place: the test in three parts, from the head, from a record at a time, and at the end.
+use Rattle.process.specs.Fits.{processFits}
+use Rattle.process.specs.Rules.{partnerOf}
+use Rattle.rendezvous.specs.declared.Form.{Form}
+use Rattle.rendezvous.specs.Types.{ℕ, zero, suc, _≡_, Bool, _&&_, cond, ltb, Process, Head, ProcessTable}
+use Rattle.rendezvous.specs.Table.{mostProcesses, process}
+use Rattle.rendezvous.specs.WellFormed.{countFits, wellFormed}
+
+-- how many guards process q has posted, from the count of the record that was read for it: none outside the table
+abbrev pub postedBy : ℕ → ℕ → ℕ
+postedBy q posted = cond (ltb q mostProcesses) posted 0
+
+-- the head
+abbrev pub formStart : Head → Form
+formStart h = record { fits = countFits (h .n) }
+
+-- process k with record x; the process that its guard names at C has posted this many
+abbrev pub formMore : Form → Head → ℕ → Process → ℕ → Form
+formMore form h k x posted = record { fits = form .fits && processFits (h .n) k x posted }
+
+-- every process is tested
+abbrev pub formEnd : Form → Head → Bool
+formEnd form h = form .fits
+
+-- the processes below k
+unfoldable pub formBelow : ProcessTable → ℕ → Form
+formBelow t zero = formStart (t .head)
+formBelow t (suc k) = let x = process t k in formMore (formBelow t k) (t .head) k x (process t (partnerOf x) .altcount)
+
+-- Over all processes of a table the parts are the test.
+abbrev pub FormsAreWellFormed : Type 0
+FormsAreWellFormed = (t : ProcessTable) → formEnd (formBelow t (t .head .n)) (t .head) ≡ wellFormed t

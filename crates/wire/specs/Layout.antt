@@ -1,0 +1,93 @@
+-- To be believed. How many bytes each part of a table takes, and where it stands in what holds it. The first part stands at 0; a part without a name here is one byte, and stands behind the one before it.
+use Rattle.alternative.specs.Guards.{mostGuards}
+use Rattle.rendezvous.specs.Table.{mostProcesses}
+use Rattle.wire.specs.Types.{ℕ, _+_, _*_, _≡_}
+
+-- a number of 32 bits
+abbrev pub wordLength : ℕ
+wordLength = 4
+
+-- a message: the variant, two words
+abbrev pub firstAt : ℕ
+firstAt = 1
+
+abbrev pub secondAt : ℕ
+secondAt = firstAt + wordLength
+
+abbrev pub messageLength : ℕ
+messageLength = secondAt + wordLength
+
+-- an action: the variant, the message that is sent
+abbrev pub sentAt : ℕ
+sentAt = 1
+
+abbrev pub actionLength : ℕ
+actionLength = sentAt + messageLength
+
+-- a guard: enabled, the partner, the action
+abbrev pub actionAt : ℕ
+actionAt = 2
+
+abbrev pub guardLength : ℕ
+guardLength = actionAt + actionLength
+
+-- the slots of a list of guards
+abbrev pub guardsLength : ℕ
+guardsLength = guardLength * mostGuards
+
+-- a place: the variant, the index, the kept index, the outcome's message
+abbrev pub outcomeAt : ℕ
+outcomeAt = 3
+
+abbrev pub placeLength : ℕ
+placeLength = outcomeAt + messageLength
+
+-- a signal: the variant, the index, its message
+abbrev pub signalledAt : ℕ
+signalledAt = 2
+
+abbrev pub signalLength : ℕ
+signalLength = signalledAt + messageLength
+
+-- a record: the place, the signal, the ticket, accepting, the counts of the own and of the posted list, the own guards, the posted guards
+abbrev pub signalAt : ℕ
+signalAt = placeLength
+
+abbrev pub ticketAt : ℕ
+ticketAt = signalAt + signalLength
+
+abbrev pub acceptingAt : ℕ
+acceptingAt = ticketAt + wordLength
+
+abbrev pub countAt : ℕ
+countAt = acceptingAt + 1
+
+abbrev pub altcountAt : ℕ
+altcountAt = countAt + 1
+
+abbrev pub guardsAt : ℕ
+guardsAt = altcountAt + 1
+
+abbrev pub altlistAt : ℕ
+altlistAt = guardsAt + guardsLength
+
+abbrev pub recordLength : ℕ
+recordLength = altlistAt + guardsLength
+
+-- a head: the number of processes, the next ticket
+abbrev pub nextAt : ℕ
+nextAt = 1
+
+abbrev pub headLength : ℕ
+headLength = nextAt + wordLength
+
+-- a table: its head, a record for each process
+abbrev pub recordsLength : ℕ
+recordsLength = recordLength * mostProcesses
+
+abbrev pub tableLength : ℕ
+tableLength = headLength + recordsLength
+
+-- the numbers that docs/BYTES.md gives
+abbrev pub Lengths : Type 0
+Lengths = (messageLength ≡ 9) × (guardLength ≡ 12) × (recordLength ≡ 222) × (headLength ≡ 5) × (tableLength ≡ 7109)
