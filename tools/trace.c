@@ -74,18 +74,14 @@ static const uint8_t *record(const uint8_t *session, unsigned p) {
 /* Guard i of a record's list. */
 static const uint8_t *guard_at(const uint8_t *process, unsigned list, unsigned i) { return process + list + RENDEZVOUS_GUARD_BYTES * i; }
 
-static uint32_t word(const uint8_t *bytes) {
-    return bytes[0] | (uint32_t)bytes[1] << 8 | (uint32_t)bytes[2] << 16 | (uint32_t)bytes[3] << 24;
-}
-
 static Text message_in(const uint8_t *bytes) {
     Text m = {"0"};
     unsigned kind = bytes[RENDEZVOUS_MESSAGE_KIND];
-    unsigned long first = word(bytes + RENDEZVOUS_MESSAGE_FIRST), second = word(bytes + RENDEZVOUS_MESSAGE_SECOND);
-    if (kind == 1) snprintf(m.text, sizeof m.text, "w%ld", (long)(int32_t)first);
-    if (kind == 2) snprintf(m.text, sizeof m.text, "r%08lx", first);
-    if (kind == 3) snprintf(m.text, sizeof m.text, "l%08lx%08lx", first, second);
-    if (kind > 3) snprintf(m.text, sizeof m.text, "kind %u", kind);
+    unsigned long first = rendezvous_word(bytes + RENDEZVOUS_MESSAGE_FIRST), second = rendezvous_word(bytes + RENDEZVOUS_MESSAGE_SECOND);
+    if (kind == RENDEZVOUS_WHOLE) snprintf(m.text, sizeof m.text, "w%ld", (long)(int32_t)first);
+    if (kind == RENDEZVOUS_READING) snprintf(m.text, sizeof m.text, "r%08lx", first);
+    if (kind == RENDEZVOUS_LIMIT) snprintf(m.text, sizeof m.text, "l%08lx%08lx", first, second);
+    if (kind > RENDEZVOUS_LIMIT) snprintf(m.text, sizeof m.text, "kind %u", kind);
     return m;
 }
 
@@ -104,7 +100,7 @@ static Text signal_in(const uint8_t *process) {
 
 static Text outcome_in(const uint8_t *process) { return message_in(process + RENDEZVOUS_RECORD_OUTCOME); }
 
-static unsigned long ticket_in(const uint8_t *process) { return word(process + RENDEZVOUS_RECORD_TICKET); }
+static unsigned long ticket_in(const uint8_t *process) { return rendezvous_word(process + RENDEZVOUS_RECORD_TICKET); }
 
 static int wake_count_in(const uint8_t *process) { return !process[RENDEZVOUS_RECORD_ACCEPTING]; }
 

@@ -1,5 +1,6 @@
 /* The proved library for C: the calls on a process table and the script program, on lent bytes. A program includes this file and links
-   libexports.a. Every function is proved for all arguments; what each gives is defined in crates/wire/specs and crates/exports/specs.
+   libexports.a. Every function of the library is proved for all arguments; what each gives is defined in crates/wire/specs and
+   crates/exports/specs. The four at the end, which only lay bytes out, are C.
 
    docs/BYTES.md has the bytes of a table, a guard, an answer and a session. Any bytes, RENDEZVOUS_TABLE_BYTES of them, are a table. A
    refused call writes the table that it read: the same bytes, but for such as no call writes (a NaN's payload, a tag past the last,
@@ -57,12 +58,25 @@
 #define RENDEZVOUS_HEAD_BYTES (RENDEZVOUS_HEAD_NEXT + RENDEZVOUS_WORD_BYTES)
 #define RENDEZVOUS_TABLE_BYTES (RENDEZVOUS_HEAD_BYTES + RENDEZVOUS_PROCESSES * RENDEZVOUS_RECORD_BYTES)
 
+#define RENDEZVOUS_NOTHING 0 /* kinds of messages */
+#define RENDEZVOUS_WHOLE 1
+#define RENDEZVOUS_READING 2
+#define RENDEZVOUS_LIMIT 3
+
 #define RENDEZVOUS_ANSWER_KIND 0
 #define RENDEZVOUS_ANSWER_FIRST 1
 #define RENDEZVOUS_ANSWER_SECOND 2
 #define RENDEZVOUS_ANSWER_MESSAGE 3
 #define RENDEZVOUS_ANSWER_WORD (RENDEZVOUS_ANSWER_MESSAGE + RENDEZVOUS_MESSAGE_BYTES)
 #define RENDEZVOUS_ANSWER_BYTES (RENDEZVOUS_ANSWER_WORD + RENDEZVOUS_WORD_BYTES)
+
+#define RENDEZVOUS_MADE 0 /* kinds of answers */
+#define RENDEZVOUS_OFFERED 1
+#define RENDEZVOUS_MOVED 2
+#define RENDEZVOUS_UNCHANGED 3
+#define RENDEZVOUS_COLLECTED 4
+#define RENDEZVOUS_RUNNABLE 5
+#define RENDEZVOUS_REFUSED 6
 
 #define RENDEZVOUS_BEGUN_BYTES 201 /* for a begun line: one more than a line may have */
 #define RENDEZVOUS_SESSION_BEGUN 2
@@ -108,5 +122,31 @@ size_t rendezvous_script_finish(const uint8_t *state, size_t state_length, uint8
 float rendezvous_reading_through(float x);
 float rendezvous_low_through(float low, float high);
 float rendezvous_high_through(float low, float high);
+
+/* A word of an answer or a message. */
+static inline uint32_t rendezvous_word(const uint8_t *bytes) {
+    return bytes[0] | (uint32_t)bytes[1] << 8 | (uint32_t)bytes[2] << 16 | (uint32_t)bytes[3] << 24;
+}
+
+static inline void rendezvous_put_word(uint8_t *bytes, uint32_t word) {
+    for (int k = 0; k < RENDEZVOUS_WORD_BYTES; k++) bytes[k] = word >> 8 * k;
+}
+
+/* A guard that receives, to RENDEZVOUS_GUARD_BYTES. */
+static inline void rendezvous_receives(uint8_t *guard, bool enabled, uint8_t partner) {
+    for (int k = 0; k < RENDEZVOUS_GUARD_BYTES; k++) guard[k] = 0;
+    guard[RENDEZVOUS_GUARD_ENABLED] = enabled;
+    guard[RENDEZVOUS_GUARD_PARTNER] = partner;
+}
+
+/* A guard that sends a message of a kind: a whole number or the bits of a reading in `first`, the bits of a limit's low and high in both. */
+static inline void rendezvous_sends(uint8_t *guard, bool enabled, uint8_t partner, uint8_t kind, uint32_t first, uint32_t second) {
+    uint8_t *message = guard + RENDEZVOUS_GUARD_MESSAGE;
+    rendezvous_receives(guard, enabled, partner);
+    guard[RENDEZVOUS_GUARD_SENDS] = true;
+    message[RENDEZVOUS_MESSAGE_KIND] = kind;
+    rendezvous_put_word(message + RENDEZVOUS_MESSAGE_FIRST, first);
+    rendezvous_put_word(message + RENDEZVOUS_MESSAGE_SECOND, second);
+}
 
 #endif

@@ -2,7 +2,7 @@
 //! script program, on lent bytes. A program takes this file as `mod rendezvous;` and links
 //! libexports.a; nothing here needs more than `core`. Each function passes its arguments on to the
 //! library's, which is proved for all of them; what it gives is defined in crates/wire/specs and
-//! crates/exports/specs.
+//! crates/exports/specs. `word`, `receives` and `sends`, which only lay bytes out, are Rust.
 //!
 //! docs/BYTES.md has the bytes of a table, a guard, an answer and a session.
 //!
@@ -59,12 +59,27 @@ pub const HEAD_NEXT: usize = 1;
 pub const HEAD_BYTES: usize = HEAD_NEXT + WORD_BYTES;
 pub const TABLE_BYTES: usize = HEAD_BYTES + PROCESSES * RECORD_BYTES;
 
+// Kinds of messages.
+pub const NOTHING: u8 = 0;
+pub const WHOLE: u8 = 1;
+pub const READING: u8 = 2;
+pub const LIMIT: u8 = 3;
+
 pub const ANSWER_KIND: usize = 0;
 pub const ANSWER_FIRST: usize = 1;
 pub const ANSWER_SECOND: usize = 2;
 pub const ANSWER_MESSAGE: usize = 3;
 pub const ANSWER_WORD: usize = ANSWER_MESSAGE + MESSAGE_BYTES;
 pub const ANSWER_BYTES: usize = ANSWER_WORD + WORD_BYTES;
+
+// Kinds of answers.
+pub const MADE: u8 = 0;
+pub const OFFERED: u8 = 1;
+pub const MOVED: u8 = 2;
+pub const UNCHANGED: u8 = 3;
+pub const COLLECTED: u8 = 4;
+pub const RUNNABLE: u8 = 5;
+pub const REFUSED: u8 = 6;
 
 /// For a begun line: one more than a line may have.
 pub const BEGUN_BYTES: usize = 201;
@@ -198,6 +213,31 @@ pub fn script_feed(
 #[must_use]
 pub fn script_finish(state: &[u8], out: &mut [u8]) -> usize {
     unsafe { rendezvous_script_finish(state.as_ptr(), state.len(), out.as_mut_ptr(), out.len()) }
+}
+
+/// The word at the front of bytes of an answer or a message.
+pub fn word(bytes: &[u8]) -> u32 {
+    u32::from_le_bytes([bytes[0], bytes[1], bytes[2], bytes[3]])
+}
+
+/// A guard that receives.
+pub fn receives(enabled: bool, partner: u8) -> [u8; GUARD_BYTES] {
+    let mut guard = [0; GUARD_BYTES];
+    guard[GUARD_ENABLED] = enabled as u8;
+    guard[GUARD_PARTNER] = partner;
+    guard
+}
+
+/// A guard that sends a message of a kind: a whole number or the bits of a reading in `first`, the
+/// bits of a limit's low and high in both.
+pub fn sends(enabled: bool, partner: u8, kind: u8, first: u32, second: u32) -> [u8; GUARD_BYTES] {
+    let mut guard = receives(enabled, partner);
+    guard[GUARD_SENDS] = 1;
+    let message = &mut guard[GUARD_MESSAGE..];
+    message[MESSAGE_KIND] = kind;
+    message[MESSAGE_FIRST..MESSAGE_SECOND].copy_from_slice(&first.to_le_bytes());
+    message[MESSAGE_SECOND..MESSAGE_BYTES].copy_from_slice(&second.to_le_bytes());
+    guard
 }
 
 /// For tests of an f32's bits, a NaN's too: it is handed back by way of a message that a table

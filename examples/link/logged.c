@@ -13,22 +13,16 @@
 #include <stdlib.h>
 #include <string.h>
 
-/* Kinds of messages and of answers (docs/BYTES.md). */
-enum { NOTHING, WHOLE, READING, LIMIT };
-enum { MADE, OFFERED, MOVED, UNCHANGED, COLLECTED, RUNNABLE, REFUSED };
-
 static uint8_t table[RENDEZVOUS_TABLE_BYTES], after[RENDEZVOUS_TABLE_BYTES], answer[RENDEZVOUS_ANSWER_BYTES];
 static FILE *script;
 
-static unsigned long word(const uint8_t *bytes) { return bytes[0] | bytes[1] << 8 | bytes[2] << 16 | (unsigned long)bytes[3] << 24; }
-
 static void write_message(FILE *to, const uint8_t *message) {
     unsigned kind = message[RENDEZVOUS_MESSAGE_KIND];
-    unsigned long first = word(message + RENDEZVOUS_MESSAGE_FIRST), second = word(message + RENDEZVOUS_MESSAGE_SECOND);
-    if (kind == NOTHING) fprintf(to, "0");
-    if (kind == WHOLE) fprintf(to, "w%ld", (long)(int32_t)first);
-    if (kind == READING) fprintf(to, "r%08lx", first);
-    if (kind == LIMIT) fprintf(to, "l%08lx%08lx", first, second);
+    unsigned long first = rendezvous_word(message + RENDEZVOUS_MESSAGE_FIRST), second = rendezvous_word(message + RENDEZVOUS_MESSAGE_SECOND);
+    if (kind == RENDEZVOUS_NOTHING) fprintf(to, "0");
+    if (kind == RENDEZVOUS_WHOLE) fprintf(to, "w%ld", (long)(int32_t)first);
+    if (kind == RENDEZVOUS_READING) fprintf(to, "r%08lx", first);
+    if (kind == RENDEZVOUS_LIMIT) fprintf(to, "l%08lx%08lx", first, second);
 }
 
 static void write_guard(FILE *to, const uint8_t *guard) {
@@ -40,17 +34,17 @@ static void write_guard(FILE *to, const uint8_t *guard) {
 /* What a call answered, as the script program prints it. */
 static void print_answer(const char *call) {
     unsigned kind = answer[RENDEZVOUS_ANSWER_KIND], first = answer[RENDEZVOUS_ANSWER_FIRST], second = answer[RENDEZVOUS_ANSWER_SECOND];
-    if (kind == REFUSED)
+    if (kind == RENDEZVOUS_REFUSED)
         printf("x %u", first);
     else
         printf("%s", call);
-    if (kind == OFFERED) printf(" t%lu", word(answer + RENDEZVOUS_ANSWER_WORD));
-    if (kind == MOVED) printf(" %c", first);
-    if (kind == MOVED && strchr("ATC", first)) printf("%u", second);
-    if (kind == UNCHANGED) printf(" =");
-    if (kind == COLLECTED) printf(" %u %u ", first, second);
-    if (kind == COLLECTED) write_message(stdout, answer + RENDEZVOUS_ANSWER_MESSAGE);
-    if (kind == RUNNABLE) printf(" %08lx", word(answer + RENDEZVOUS_ANSWER_WORD));
+    if (kind == RENDEZVOUS_OFFERED) printf(" t%lu", (unsigned long)rendezvous_word(answer + RENDEZVOUS_ANSWER_WORD));
+    if (kind == RENDEZVOUS_MOVED) printf(" %c", first);
+    if (kind == RENDEZVOUS_MOVED && strchr("ATC", first)) printf("%u", second);
+    if (kind == RENDEZVOUS_UNCHANGED) printf(" =");
+    if (kind == RENDEZVOUS_COLLECTED) printf(" %u %u ", first, second);
+    if (kind == RENDEZVOUS_COLLECTED) write_message(stdout, answer + RENDEZVOUS_ANSWER_MESSAGE);
+    if (kind == RENDEZVOUS_RUNNABLE) printf(" %08lx", (unsigned long)rendezvous_word(answer + RENDEZVOUS_ANSWER_WORD));
     printf("\n");
 }
 
@@ -104,7 +98,7 @@ static bool runnable(void) {
     fprintf(script, "m");
     end_line();
     next(rendezvous_runnable(table, sizeof table, after, sizeof after, answer, sizeof answer), "m");
-    return word(answer + RENDEZVOUS_ANSWER_WORD) != 0;
+    return rendezvous_word(answer + RENDEZVOUS_ANSWER_WORD) != 0;
 }
 
 /* Rounds in which both processes step once, in number order, until nothing is runnable. */
@@ -115,32 +109,14 @@ static void settle(void) {
 
 typedef uint8_t Guard[RENDEZVOUS_GUARD_BYTES];
 
-static void receives(Guard guard, uint8_t partner) {
-    memset(guard, 0, sizeof(Guard));
-    guard[RENDEZVOUS_GUARD_ENABLED] = true;
-    guard[RENDEZVOUS_GUARD_PARTNER] = partner;
-}
-
-static void sends(Guard guard, bool enabled, uint8_t partner, uint8_t kind, uint32_t first, uint32_t second) {
-    uint8_t *message = guard + RENDEZVOUS_GUARD_MESSAGE;
-    guard[RENDEZVOUS_GUARD_ENABLED] = enabled;
-    guard[RENDEZVOUS_GUARD_PARTNER] = partner;
-    guard[RENDEZVOUS_GUARD_SENDS] = true;
-    message[RENDEZVOUS_MESSAGE_KIND] = kind;
-    for (int k = 0; k < RENDEZVOUS_WORD_BYTES; k++) {
-        message[RENDEZVOUS_MESSAGE_FIRST + k] = first >> 8 * k;
-        message[RENDEZVOUS_MESSAGE_SECOND + k] = second >> 8 * k;
-    }
-}
-
 int main(int count, char **words) {
     Guard not_a_number, reading, taking[2], limit, taking_limit;
-    sends(not_a_number, true, 1, READING, 0x7fc00000, 0);
-    sends(reading, true, 1, READING, 0x40970a3d, 0);
-    sends(taking[0], false, 0, WHOLE, -1, 0);
-    receives(taking[1], 0);
-    sends(limit, true, 0, LIMIT, 0x40970a3d, 0x40a00000);
-    receives(taking_limit, 1);
+    rendezvous_sends(not_a_number, true, 1, RENDEZVOUS_READING, 0x7fc00000, 0);
+    rendezvous_sends(reading, true, 1, RENDEZVOUS_READING, 0x40970a3d, 0);
+    rendezvous_sends(taking[0], false, 0, RENDEZVOUS_WHOLE, -1, 0);
+    rendezvous_receives(taking[1], true, 0);
+    rendezvous_sends(limit, true, 0, RENDEZVOUS_LIMIT, 0x40970a3d, 0x40a00000);
+    rendezvous_receives(taking_limit, true, 1);
     script = count == 2 ? fopen(words[1], "a") : NULL;
     if (!script) {
         fprintf(stderr, "logged-c LOG: LOG is a file that can be written.\n");

@@ -17,29 +17,26 @@ static void step(uint8_t p, int times) {
     for (int k = 0; k < times; k++) next(rendezvous_step(table, sizeof table, p, after, sizeof after, answer, sizeof answer));
 }
 
-/* One enabled guard: its partner, whether it sends, and the bits of a reading. */
-static void offer(uint8_t p, uint8_t partner, bool sends, uint32_t bits) {
-    uint8_t guard[RENDEZVOUS_GUARD_BYTES] = {0}, *message = guard + RENDEZVOUS_GUARD_MESSAGE;
-    guard[RENDEZVOUS_GUARD_ENABLED] = true;
-    guard[RENDEZVOUS_GUARD_PARTNER] = partner;
-    guard[RENDEZVOUS_GUARD_SENDS] = sends;
-    message[RENDEZVOUS_MESSAGE_KIND] = sends ? 2 : 0;
-    memcpy(message + RENDEZVOUS_MESSAGE_FIRST, &bits, sizeof bits);
-    next(rendezvous_offer(table, sizeof table, p, guard, sizeof guard, after, sizeof after, answer, sizeof answer));
+static void offer(uint8_t p, const uint8_t *guard) {
+    next(rendezvous_offer(table, sizeof table, p, guard, RENDEZVOUS_GUARD_BYTES, after, sizeof after, answer, sizeof answer));
 }
 
 int main(void) {
     float sent = 4.72f, received;
     uint32_t bits;
+    uint8_t reading[RENDEZVOUS_GUARD_BYTES], taking[RENDEZVOUS_GUARD_BYTES];
     memcpy(&bits, &sent, sizeof bits);
+    rendezvous_sends(reading, true, 1, RENDEZVOUS_READING, bits, 0);
+    rendezvous_receives(taking, true, 0);
     next(rendezvous_create(2, after, sizeof after, answer, sizeof answer));
-    offer(0, 1, true, bits);
-    offer(1, 0, false, 0);
+    offer(0, reading);
+    offer(1, taking);
     step(0, 5); /* 0 finds nobody, posts its list and waits */
     step(1, 4); /* 1 finds 0 waiting, commits and takes the reading */
     step(0, 1); /* 0 absorbs the signal */
     next(rendezvous_collect(table, sizeof table, 1, after, sizeof after, answer, sizeof answer));
-    memcpy(&received, answer + RENDEZVOUS_ANSWER_MESSAGE + RENDEZVOUS_MESSAGE_FIRST, sizeof received);
+    bits = rendezvous_word(answer + RENDEZVOUS_ANSWER_MESSAGE + RENDEZVOUS_MESSAGE_FIRST);
+    memcpy(&received, &bits, sizeof received);
     printf("process 1 collects %.2f from process %d\n", received, answer[RENDEZVOUS_ANSWER_SECOND]);
-    return answer[RENDEZVOUS_ANSWER_KIND] == 4 && memcmp(&received, &sent, sizeof sent) == 0 ? 0 : 1;
+    return answer[RENDEZVOUS_ANSWER_KIND] == RENDEZVOUS_COLLECTED && memcmp(&received, &sent, sizeof sent) == 0 ? 0 : 1;
 }

@@ -28,8 +28,6 @@
 #include <string.h>
 
 enum { SAMPLER, FINDER, PROCESSES };
-/* Kinds of answers (docs/BYTES.md). */
-enum { OFFERED = 1, MOVED = 2, COLLECTED = 4 };
 
 /* What a task collects: which of its guards has met, and the message's one or two f32, as bits. */
 typedef struct {
@@ -47,14 +45,6 @@ static _Noreturn void fail(const char *what) {
     exit(1);
 }
 
-static uint32_t word(const uint8_t *bytes) {
-    return bytes[0] | (uint32_t)bytes[1] << 8 | (uint32_t)bytes[2] << 16 | (uint32_t)bytes[3] << 24;
-}
-
-static void put_word(uint8_t *bytes, uint32_t value) {
-    for (int k = 0; k < RENDEZVOUS_WORD_BYTES; k++) bytes[k] = value >> 8 * k;
-}
-
 /* The table that a call hands back is the one for the next call. */
 static void keep(bool called) {
     if (!called) fail("a buffer is too short");
@@ -63,7 +53,7 @@ static void keep(bool called) {
 
 static void offer(uint8_t p, const uint8_t *guards, size_t length) {
     keep(rendezvous_offer(table, sizeof table, p, guards, length, after, sizeof after, answer, sizeof answer));
-    if (answer[RENDEZVOUS_ANSWER_KIND] != OFFERED) fail("an offer is refused");
+    if (answer[RENDEZVOUS_ANSWER_KIND] != RENDEZVOUS_OFFERED) fail("an offer is refused");
 }
 
 /* Every process steps once, in number order. Gives whether that changed anything. */
@@ -71,7 +61,7 @@ static bool round_changes(void) {
     bool changes = false;
     for (uint8_t p = 0; p < PROCESSES; p++) {
         keep(rendezvous_step(table, sizeof table, p, after, sizeof after, answer, sizeof answer));
-        if (answer[RENDEZVOUS_ANSWER_KIND] == MOVED) changes = true;
+        if (answer[RENDEZVOUS_ANSWER_KIND] == RENDEZVOUS_MOVED) changes = true;
     }
     return changes;
 }
@@ -79,7 +69,7 @@ static bool round_changes(void) {
 /* Whether process p was at M; its outcome is then in the answer. */
 static bool collected(uint8_t p) {
     keep(rendezvous_collect(table, sizeof table, p, after, sizeof after, answer, sizeof answer));
-    return answer[RENDEZVOUS_ANSWER_KIND] == COLLECTED;
+    return answer[RENDEZVOUS_ANSWER_KIND] == RENDEZVOUS_COLLECTED;
 }
 
 /* The loop of a task: process p offers the guards, and meets. */
@@ -94,29 +84,12 @@ static Outcome meet(uint8_t p, const uint8_t *guards, size_t length) {
         while (!collected(p));
     }
     const uint8_t *message = answer + RENDEZVOUS_ANSWER_MESSAGE;
-    Outcome outcome = {answer[RENDEZVOUS_ANSWER_FIRST], word(message + RENDEZVOUS_MESSAGE_FIRST), word(message + RENDEZVOUS_MESSAGE_SECOND)};
+    Outcome outcome = {answer[RENDEZVOUS_ANSWER_FIRST], rendezvous_word(message + RENDEZVOUS_MESSAGE_FIRST), rendezvous_word(message + RENDEZVOUS_MESSAGE_SECOND)};
     pthread_mutex_unlock(&lock);
     return outcome;
 }
 
-enum { READING = 2, LIMIT = 3 };
 typedef uint8_t Guard[RENDEZVOUS_GUARD_BYTES];
-
-static void receives(Guard guard, uint8_t partner) {
-    memset(guard, 0, sizeof(Guard));
-    guard[RENDEZVOUS_GUARD_ENABLED] = true;
-    guard[RENDEZVOUS_GUARD_PARTNER] = partner;
-}
-
-static void sends(Guard guard, bool enabled, uint8_t partner, uint8_t kind, uint32_t low, uint32_t high) {
-    uint8_t *message = guard + RENDEZVOUS_GUARD_MESSAGE;
-    guard[RENDEZVOUS_GUARD_ENABLED] = enabled;
-    guard[RENDEZVOUS_GUARD_PARTNER] = partner;
-    guard[RENDEZVOUS_GUARD_SENDS] = true;
-    message[RENDEZVOUS_MESSAGE_KIND] = kind;
-    put_word(message + RENDEZVOUS_MESSAGE_FIRST, low);
-    put_word(message + RENDEZVOUS_MESSAGE_SECOND, high);
-}
 
 /* Reading k has the bits of 4.72 and k more, so that no two are alike. A batch is acknowledged by a limit: its first and its last. */
 enum { FIRST_READING = 0x40970a3d, BATCH = 100 };
@@ -133,8 +106,8 @@ static Count sampler, finder;
 static void *sample(void *unused) {
     Guard guards[2];
     while (sampler.limits < batches) {
-        sends(guards[0], sampler.readings < BATCH * batches, FINDER, READING, reading(sampler.readings), 0);
-        receives(guards[1], FINDER);
+        rendezvous_sends(guards[0], sampler.readings < BATCH * batches, FINDER, RENDEZVOUS_READING, reading(sampler.readings), 0);
+        rendezvous_receives(guards[1], true, FINDER);
         Outcome outcome = meet(SAMPLER, guards[0], sizeof guards);
         if (outcome.guard == 0) {
             sampler.readings++;
@@ -153,10 +126,10 @@ static void *find(void *unused) {
     while (finder.limits < batches) {
         uint32_t first = finder.readings, last = first + BATCH - 1;
         while (finder.readings <= last) {
-            receives(guard, SAMPLER);
+            rendezvous_receives(guard, true, SAMPLER);
             if (meet(FINDER, guard, sizeof guard).low != reading(finder.readings++)) fail("a reading is not the one that is due");
         }
-        sends(guard, true, SAMPLER, LIMIT, reading(first), reading(last));
+        rendezvous_sends(guard, true, SAMPLER, RENDEZVOUS_LIMIT, reading(first), reading(last));
         meet(FINDER, guard, sizeof guard);
         finder.limits++;
     }

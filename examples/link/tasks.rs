@@ -20,21 +20,15 @@
 #[path = "../../crates/exports/rendezvous.rs"]
 mod rendezvous;
 
-use rendezvous::{collect, create, offer, step};
+use rendezvous::{collect, create, offer, receives, sends, step, word};
 use rendezvous::{ANSWER_BYTES, ANSWER_FIRST, ANSWER_KIND, ANSWER_MESSAGE, TABLE_BYTES};
-use rendezvous::{GUARD_BYTES, GUARD_ENABLED, GUARD_MESSAGE, GUARD_PARTNER, GUARD_SENDS};
-use rendezvous::{MESSAGE_BYTES, MESSAGE_FIRST, MESSAGE_KIND, MESSAGE_SECOND};
+use rendezvous::{COLLECTED, LIMIT, MESSAGE_FIRST, MESSAGE_SECOND, MOVED, OFFERED, READING};
 use std::sync::{Condvar, Mutex};
 use std::thread;
 
 const SAMPLER: u8 = 0;
 const FINDER: u8 = 1;
 const PROCESSES: u8 = 2;
-
-// Kinds of answers (docs/BYTES.md).
-const OFFERED: u8 = 1;
-const MOVED: u8 = 2;
-const COLLECTED: u8 = 4;
 
 /// What a task collects: which of its guards has met, and the message's one or two f32, as bits.
 struct Outcome {
@@ -84,14 +78,10 @@ impl Table {
         let message = &self.answer[ANSWER_MESSAGE..];
         (self.answer[ANSWER_KIND] == COLLECTED).then_some(Outcome {
             guard: self.answer[ANSWER_FIRST],
-            low: word(&message[MESSAGE_FIRST..MESSAGE_SECOND]),
-            high: word(&message[MESSAGE_SECOND..MESSAGE_BYTES]),
+            low: word(&message[MESSAGE_FIRST..]),
+            high: word(&message[MESSAGE_SECOND..]),
         })
     }
-}
-
-fn word(bytes: &[u8]) -> u32 {
-    u32::from_le_bytes(bytes.try_into().unwrap())
 }
 
 struct Shared {
@@ -116,30 +106,6 @@ fn meet(shared: &Shared, p: u8, guards: &[u8]) -> Outcome {
     }
 }
 
-// Kinds of messages.
-const READING: u8 = 2;
-const LIMIT: u8 = 3;
-
-/// A guard that receives.
-fn receives(partner: u8) -> [u8; GUARD_BYTES] {
-    let mut guard = [0; GUARD_BYTES];
-    guard[GUARD_ENABLED] = 1;
-    guard[GUARD_PARTNER] = partner;
-    guard
-}
-
-/// A guard that sends a reading or a limit, by its bits.
-fn sends(enabled: bool, partner: u8, kind: u8, low: u32, high: u32) -> [u8; GUARD_BYTES] {
-    let mut guard = receives(partner);
-    guard[GUARD_ENABLED] = enabled.into();
-    guard[GUARD_SENDS] = 1;
-    let message = &mut guard[GUARD_MESSAGE..];
-    message[MESSAGE_KIND] = kind;
-    message[MESSAGE_FIRST..MESSAGE_SECOND].copy_from_slice(&low.to_le_bytes());
-    message[MESSAGE_SECOND..MESSAGE_BYTES].copy_from_slice(&high.to_le_bytes());
-    guard
-}
-
 /// A batch of readings is acknowledged by a limit: its first and its last.
 const BATCH: u32 = 100;
 
@@ -161,7 +127,7 @@ fn sample(shared: &Shared, batches: u32) -> Count {
     while count.limits < batches {
         let more = count.readings < BATCH * batches;
         let next = sends(more, FINDER, READING, reading(count.readings), 0);
-        let outcome = meet(shared, SAMPLER, &[next, receives(FINDER)].concat());
+        let outcome = meet(shared, SAMPLER, &[next, receives(true, FINDER)].concat());
         if outcome.guard == 0 {
             count.readings += 1;
             continue;
@@ -180,7 +146,7 @@ fn find(shared: &Shared, batches: u32) -> Count {
     while count.limits < batches {
         let (first, last) = (count.readings, count.readings + BATCH - 1);
         while count.readings <= last {
-            let outcome = meet(shared, FINDER, &receives(SAMPLER));
+            let outcome = meet(shared, FINDER, &receives(true, SAMPLER));
             assert_eq!(outcome.low, reading(count.readings));
             count.readings += 1;
         }
