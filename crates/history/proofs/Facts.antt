@@ -6,12 +6,13 @@ use mathlib.Core.Option.{some}
 use Rattle.alternative.specs.Guards.{guardsMatch}
 use Rattle.process.specs.declared.Place.{Place}
 use Rattle.process.specs.Process.{indexOf, ownList, postedList, ownGuard}
+use Rattle.rendezvous.specs.declared.Head.{Head}
 use Rattle.history.proofs.View.{View}
 use Rattle.history.proofs.Invariant.{Shows, On, OnAt, Shown, Fine, Bound, Inv}
 use Rattle.history.proofs.Matches.{NamesOther, fits-names}
 use Rattle.history.proofs.Places.{shows-elim, accepting-shows}
 
-module _ {n next : ℕ} (v : View) (inv : Inv n next v) (p : ℕ) where
+module _ {head : Head} (v : View) (inv : Inv head v) (p : ℕ) where
   pub fine : (pl : Place) → v p .place ≡ pl → Fine pl (ownList (v p)) (postedList (v p)) (v p .accepting) (v p .signal)
   fine pl e = rw e at (inv .alone p .fine)
 
@@ -19,8 +20,8 @@ module _ {n next : ℕ} (v : View) (inv : Inv n next v) (p : ℕ) where
   pub at-on : (i : ℕ) → indexOf (v p .place) ≡ some i → On (ownList (v p)) i
   at-on i e = subst (OnAt (ownList (v p))) e (inv .alone p .on)
 
-  pub at-names : (i : ℕ) → indexOf (v p .place) ≡ some i → NamesOther n p (ownGuard (v p) i)
-  at-names i e = fits-names n p (v p .count) (v p .guards) (inv .alone p .own) i (at-on i e)
+  pub at-names : (i : ℕ) → indexOf (v p .place) ≡ some i → NamesOther (head .n) p (ownGuard (v p) i)
+  at-names i e = fits-names (head .n) p (v p .count) (v p .guards) (inv .alone p .own) i (at-on i e)
 
   -- what a process shows, and that one which is still accepting does
   pub shown : Shows (v p .place) → Shown (ownList (v p)) (postedList (v p)) (v p .accepting) (v p .signal)
@@ -36,5 +37,5 @@ module _ {n next : ℕ} (v : View) (inv : Inv n next v) (p : ℕ) where
   commit-binds i j e = inv .paired p _ (at-names i (rw e refl) .other) .bound i j (rw e (refl, refl)) refl
 
 -- so no process has committed to one that does not show its list
-pub unbound : {n next : ℕ} (v : View) (inv : Inv n next v) (p : ℕ) (pl : Place) → v p .place ≡ pl → (Shows pl → ⊥) → (r i j : ℕ) → v r .place ≡ Place.Committed i j → ownGuard (v r) i .partner ≡ p → ⊥
+pub unbound : {head : Head} (v : View) (inv : Inv head v) (p : ℕ) (pl : Place) → v p .place ≡ pl → (Shows pl → ⊥) → (r i j : ℕ) → v r .place ≡ Place.Committed i j → ownGuard (v r) i .partner ≡ p → ⊥
 unbound v inv p pl e hides r i j c z = hides (rw (z, e) at (commit-binds v inv r i j c .0 .shows))

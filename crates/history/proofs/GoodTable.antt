@@ -14,7 +14,7 @@ use Rattle.process.specs.declared.Place.{Place}
 use Rattle.process.specs.declared.Process.{Process}
 use Rattle.rendezvous.specs.declared.ProcessTable.{ProcessTable}
 use Rattle.process.specs.Process.{indexOf, nobody, freshProcess}
-use Rattle.rendezvous.specs.Table.{mostProcesses, process, put, freshTable}
+use Rattle.rendezvous.specs.Table.{mostProcesses, process, put, freshHead, freshTable}
 use Rattle.process.specs.Rules.{Effect, Neither, Own, Both, namedBy, partnerOf}
 use Rattle.process.specs.Fits.{allGuards, listFits}
 use Rattle.rendezvous.specs.Calls.{entering, offered, effectOn, applied, stepped}
@@ -54,7 +54,7 @@ module _ {t : ProcessTable} (good : Good t) (p : ℕ) where
         put-view (put t q y) p x (omega (arith, good .long, good .most, length-set (t .processes) q y))
         ∙ ap (λ (v : View). upd v p x) (put-view t q y (omega (arith, good .long, good .most)))
 
-    good-put : Inv (t .head .n) (t .head .next .0) (upd (process t) p x) → Formed (t .head .n) p x → Good (put t p x)
+    good-put : Inv (t .head) (upd (process t) p x) → Formed (t .head .n) p x → Good (put t p x)
     good-put inv f = record {
       long = length-set (t .processes) p x ∙ good .long;
       least = good .least;
@@ -63,7 +63,7 @@ module _ {t : ProcessTable} (good : Good t) (p : ℕ) where
       formed = subst⁻¹ (AllFormed (t .head .n)) put-one (with-own (process t) (good .inv) (good .formed) p x f);
     }
 
-  good-applied : p < t .head .n → (q : ℕ) → q < t .head .n → (effect : Effect) → Inv (t .head .n) (t .head .next .0) (effected (process t) p q effect)
+  good-applied : p < t .head .n → (q : ℕ) → q < t .head .n → (effect : Effect) → Inv (t .head) (effected (process t) p q effect)
       → AllFormed (t .head .n) (effected (process t) p q effect) → Good (applied t p q effect .table)
   good-applied h q l Neither inv f = good
   good-applied h q l (Own x) inv f = record { long = length-set (t .processes) p x ∙ good .long; least = good .least; most = good .most; inv = rw (put-one x h) inv; formed = subst⁻¹ (AllFormed (t .head .n)) (put-one x h) f }
@@ -90,7 +90,7 @@ module _ {t : ProcessTable} (good : Good t) (p : ℕ) where
         long = length-set (t .processes) p _ ∙ good .long;
         least = good .least;
         most = good .most;
-        inv = rw (put-one x (a .below)) (inv-offered (process t) (good .inv) p (t .head .next) (lent gs) _ refl (omega arith) (idle-is _ (a .idle)) (a .below) fits);
+        inv = rw (put-one x (a .below)) (inv-offered (process t) (good .inv) p (lent gs) (idle-is _ (a .idle)) (a .below) fits);
         formed = subst⁻¹ (AllFormed (t .head .n)) (put-one x (a .below)) (with-own (process t) (good .inv) (good .formed) p x (record { posted = good .formed p .posted; signal = rw silent refl; outcome = tt }));
       }
 
@@ -121,7 +121,7 @@ good-fresh n a b = record {
   least = a;
   most = b;
   inv = record {
-    alone = λ p. fresh-each (Alone n 0 p)
+    alone = λ p. fresh-each (Alone (freshHead n) p)
         (record { fine = (refl, refl); own = refl; on = tt; there = λ b. absurd (true≢false b); given = λ b. absurd (true≢false b) })
         (record { fine = (refl, refl); own = refl; on = tt; there = λ b. absurd (true≢false b); given = λ b. absurd (true≢false b) }) n p;
     paired = λ p q _. idle-paired p q _ _ (fresh-each (λ x. x .place ≡ Place.Idle) refl refl n p);

@@ -12,6 +12,7 @@ use Rattle.process.specs.declared.Signal.{Signal}
 use Rattle.process.specs.declared.Place.{Place}
 use Rattle.process.specs.declared.State.{State}
 use Rattle.process.specs.declared.Process.{Process}
+use Rattle.rendezvous.specs.declared.Head.{Head}
 use Rattle.rendezvous.specs.declared.ProcessTable.{ProcessTable}
 use Rattle.process.specs.Process.{stateOf, indexOf, ifMet, ifCommitted, ownList, postedList, ownGuard, isIdle}
 use Rattle.rendezvous.specs.Table.{mostProcesses, process}
@@ -115,14 +116,14 @@ Fine Place.Asleep gs hs accepting signal = Calm accepting signal
 Fine Place.Waiting gs hs accepting signal = Shown gs hs accepting signal
 Fine (Place.Met i m) gs hs accepting signal = Calm accepting signal
 
--- of process p with record x, in a table of n processes with this next ticket
-pub record Alone (n next p : ℕ) (x : Process) : Type 0 where
+-- of process p with record x, in a table with head h
+pub record Alone (h : Head) (p : ℕ) (x : Process) : Type 0 where
   pub fine : Fine (x .place) (ownList x) (postedList x) (x .accepting) (x .signal)
-  pub own : listFits n p (x .count) (x .guards) ≡ true
+  pub own : listFits (h .n) p (x .count) (x .guards) ≡ true
   pub on : OnAt (ownList x) (indexOf (x .place))
   -- one that is not at I is a process of the table, with a ticket that was given out
-  pub there : isIdle (x .place) ≡ false → p < n
-  pub given : isIdle (x .place) ≡ false → x .transaction .0 < next
+  pub there : isIdle (x .place) ≡ false → p < h .n
+  pub given : isIdle (x .place) ≡ false → x .transaction .0 < h .next .0
 
 -- a process that another has committed to, and that does not know it yet
 pub record Bound (y : Process) : Type 0 where
@@ -143,8 +144,8 @@ pub record Paired (p q : ℕ) (x y : Process) : Type 0 where
   -- tickets differ
   pub differ : isIdle (x .place) ≡ false → isIdle (y .place) ≡ false → x .transaction .0 ≡ y .transaction .0 → ⊥
 
-pub record Inv (n next : ℕ) (v : View) : Type 0 where
-  pub alone : (p : ℕ) → Alone n next p (v p)
+pub record Inv (h : Head) (v : View) : Type 0 where
+  pub alone : (p : ℕ) → Alone h p (v p)
   pub paired : (p q : ℕ) → (p ≡ q → ⊥) → Paired p q (v p) (v q)
 
 -- Of the record x of process p: the posted list, the signal and the outcome are as refusal 7 asks.
@@ -161,5 +162,5 @@ pub record Good (t : ProcessTable) : Type 0 where
   pub long : length (t .processes) ≡ mostProcesses
   pub least : 2 ≤ t .head .n
   pub most : t .head .n ≤ mostProcesses
-  pub inv : Inv (t .head .n) (t .head .next .0) (process t)
+  pub inv : Inv (t .head) (process t)
   pub formed : AllFormed (t .head .n) (process t)

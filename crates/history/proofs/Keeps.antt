@@ -1,5 +1,5 @@
 -- Every rule, an accepted offer and a collection keep what holds of each process and of each two.
-use Prim.Native.Nat.{ℕ, suc, _<_}
+use Prim.Native.Nat.{ℕ, suc, _+_, _<_}
 use mathlib.Core.Path.{_≡_, refl, sym, _∙_, subst}
 use mathlib.Core.List.{List}
 use mathlib.Core.Bool.{Bool, true, false, false≢true}
@@ -11,7 +11,6 @@ use Rattle.alternative.specs.declared.Guard.{Guard}
 use Rattle.alternative.specs.declared.GuardList.{GuardList}
 use Rattle.alternative.specs.declared.Found.{Found}
 use Rattle.alternative.specs.Guards.{guardsMatch, nextEnabled, slots}
-use Rattle.process.specs.declared.TransactionId.{TransactionId}
 use Rattle.process.specs.declared.Signal.{Signal}
 use Rattle.process.specs.declared.Place.{Place}
 use Rattle.process.specs.declared.State.{State}
@@ -19,7 +18,9 @@ use Rattle.process.specs.declared.Process.{Process}
 use Rattle.process.specs.Process.{stateOf, indexOf, ownList, postedList, ownGuard, postedGuard, isIdle}
 use Rattle.process.specs.Rules.{atPlace, withSignal, withAccepting, scanAt, scanFrom, scan, try, handOver, absorb, ruleAt, rule, namedBy, partnerOf}
 use Rattle.process.specs.Fits.{listFits}
+use Rattle.rendezvous.specs.Table.{withNext}
 use Rattle.rendezvous.specs.Calls.{entering}
+use Rattle.rendezvous.specs.declared.Head.{Head}
 use Rattle.history.proofs.View.{split, View, upd, effected, upd-same, upd-other, entered-each, upd-comm}
 use Rattle.history.proofs.Invariant.{Past, Tries, Commits, Shows, Quiet, Waits, On, OnAt, Calm, Shown, Fine, Bound, Inv}
 use Rattle.history.proofs.Matches.{match, Searched, searched, next-view}
@@ -40,7 +41,7 @@ ahead gs s = next-view (λ f. Ahead gs s (scanAt f)) gs s
     (λ i o n. record { past = λ a k b l. split k s (λ c. c) (λ c. absurd (n k c l b)); tries = λ k a. a; commits = λ i j a. a; calm = λ hs a g c. c; on = o })
     (λ n. record { past = λ a k b l. split k s (λ c. c) (λ c. absurd (n k c b)); tries = λ k a. a; commits = λ i j a. a; calm = λ hs a g c. c; on = tt })
 
-module _ {n next : ℕ} (v : View) (inv : Inv n next v) (p : ℕ) where
+module _ {head : Head} (v : View) (inv : Inv head v) (p : ℕ) where
   -- one that shows its list, with the wake count and the signal as they were, is bound if it was
   still : (x : Process) → Shows (x .place) → x .accepting ≡ v p .accepting → x .signal ≡ v p .signal → Held v p → Bound x
   still x s a b h = let o = held v inv p h in record { shows = s; woken = a ∙ o .woken; deaf = b ∙ o .deaf }
@@ -48,7 +49,7 @@ module _ {n next : ℕ} (v : View) (inv : Inv n next v) (p : ℕ) where
   -- The scan goes on from guard s: of the guards before it none but the past ones is near to one that matches.
   advance : (q : ℕ) (pl : Place) → v p .place ≡ pl → (s : ℕ) → (Shows pl → ⊥) → isIdle pl ≡ false → Calm (v p .accepting) (v p .signal)
       → ((k r l : ℕ) → (r ≡ p → ⊥) → guardsMatch p (ownGuard (v p) k) r (ownGuard (v r) l) ≡ true → Near (v r) l → k < s → Past pl (v p .accepting) k)
-      → Inv n next (effected v p q (scanFrom (v p) s))
+      → Inv head (effected v p q (scanFrom (v p) s))
   unfolding scanFrom
   advance q pl e s hides busy c d =
       let h = ahead (ownList (v p)) s in
@@ -62,7 +63,7 @@ module _ {n next : ℕ} (v : View) (inv : Inv n next v) (p : ℕ) where
       })
 
   -- rules 1 and 2
-  enter : (q : ℕ) (pl : Place) → v p .place ≡ pl → (Shows pl → ⊥) → isIdle pl ≡ false → Calm (v p .accepting) (v p .signal) → Inv n next (effected v p q (scanFrom (v p) 0))
+  enter : (q : ℕ) (pl : Place) → v p .place ≡ pl → (Shows pl → ⊥) → isIdle pl ≡ false → Calm (v p .accepting) (v p .signal) → Inv head (effected v p q (scanFrom (v p) 0))
   enter q pl e hides busy c = advance q pl e 0 hides busy c (λ k r l ne f m h. absurd (omega arith))
 
   -- a match at guard i is with the process that it names
@@ -70,7 +71,7 @@ module _ {n next : ℕ} (v : View) (inv : Inv n next v) (p : ℕ) where
   named i k r l m f = rw (← m) (sym (match f .to))
 
   -- rule 3: the partner is quiet, so no guard of it is near
-  rule-3 : (i : ℕ) → v p .place ≡ Place.Scanning i → Quiet (v (ownGuard (v p) i .partner) .place) → Inv n next (effected v p (ownGuard (v p) i .partner) (scanFrom (v p) (suc i)))
+  rule-3 : (i : ℕ) → v p .place ≡ Place.Scanning i → Quiet (v (ownGuard (v p) i .partner) .place) → Inv head (effected v p (ownGuard (v p) i .partner) (scanFrom (v p) (suc i)))
   rule-3 i e q = advance _ _ e (suc i) (λ a. a) refl (fine v inv p _ e)
       (λ k r l ne f m h. split k i (λ a. a) (λ a. absurd (apart r l (rw (named i k r l (omega arith) f) q) m)))
     where
@@ -79,7 +80,7 @@ module _ {n next : ℕ} (v : View) (inv : Inv n next v) (p : ℕ) where
       apart r l q (trying b) = quiet-elim (λ at. Tries at l → ⊥) (λ a. a) (λ a. a) (λ a. a) (λ i m a. a) (v r .place) q b
 
   -- rule 4: the partner waits
-  rule-4 : (i : ℕ) → v p .place ≡ Place.Scanning i → Waits (v (ownGuard (v p) i .partner) .place) → Inv n next (upd v p (atPlace (v p) (Place.Trying i)))
+  rule-4 : (i : ℕ) → v p .place ≡ Place.Scanning i → Waits (v (ownGuard (v p) i .partner) .place) → Inv head (upd v p (atPlace (v p) (Place.Trying i)))
   rule-4 i e w =
       let waits : (k r l : ℕ) → guardsMatch p (ownGuard (v p) k) r (ownGuard (v r) l) ≡ true → i ≡ k → Waits (v r .place) = λ k r l f g. rw (named i k r l (sym g) f) w in
       moves v inv p _ e _ _ _ (fine v inv p _ e) (at-on v inv p i (rw e refl)) (search (absurd, inr, waits, free v inv p _ e))
@@ -92,7 +93,7 @@ module _ {n next : ℕ} (v : View) (inv : Inv n next v) (p : ℕ) where
   -- rule 8: a partner that waits has no guard that matches, or the search would have found it
   rule-8 : (i : ℕ) → v p .place ≡ Place.Trying i
       → ((l : ℕ) → v (ownGuard (v p) i .partner) .accepting ≡ true → guardsMatch p (ownGuard (v p) i) (ownGuard (v p) i .partner) (ownGuard (v (ownGuard (v p) i .partner)) l) ≡ true → ⊥)
-      → Inv n next (effected v p (ownGuard (v p) i .partner) (scanFrom (v p) (suc i)))
+      → Inv head (effected v p (ownGuard (v p) i .partner) (scanFrom (v p) (suc i)))
   rule-8 i e missing = advance _ _ e (suc i) (λ a. a) refl (fine v inv p _ e)
       (λ k r l ne f m h. split k i (λ a. a) (λ a.
       let z : k ≡ i = omega arith in
@@ -101,7 +102,7 @@ module _ {n next : ℕ} (v : View) (inv : Inv n next v) (p : ℕ) where
       absurd (missing l (rw t at (tried i r l e ne f′ m)) (rw t at f′))))
 
   -- the partner's part of rule 7
-  woken : v p .accepting ≡ true → Inv n next (upd v p (withAccepting (v p) false))
+  woken : v p .accepting ≡ true → Inv head (upd v p (withAccepting (v p) false))
   woken z =
       let s = accepts v inv p z in
       let closed : (k : ℕ) → Past (v p .place) false k → Past (v p .place) (v p .accepting) k = λ k g. absurd (shows-elim (λ at. Past at false k → ⊥) false≢true false≢true (v p .place) s g) in
@@ -110,7 +111,7 @@ module _ {n next : ℕ} (v : View) (inv : Inv n next v) (p : ℕ) where
       moves v inv p _ refl _ _ _ (shows-elim (λ at. Fine at (ownList (v p)) (postedList (v p)) false (v p .signal)) h h (v p .place) s) (inv .alone p .on) (search (inl, closed, unheld))
 
   -- the partner's part of rule 9, where no other process has committed to it
-  told : (signal : Signal) → Bound (v p) → (Held v p → ⊥) → Inv n next (upd v p (withSignal (v p) signal))
+  told : (signal : Signal) → Bound (v p) → (Held v p → ⊥) → Inv head (upd v p (withSignal (v p) signal))
   told signal b alone =
       let unheld : (x : Process) → Held v p → Bound x = λ x h. absurd (alone h) in
       let h : Shown (ownList (v p)) (postedList (v p)) (v p .accepting) signal = record { posted = shown v inv p (b .shows) .posted; deaf = λ a. absurd (false≢true (sym (b .woken) ∙ a)) } in
@@ -119,16 +120,16 @@ module _ {n next : ℕ} (v : View) (inv : Inv n next v) (p : ℕ) where
   -- the own part of rule 7, where no other process has committed to the partner
   committed : (i j : ℕ) → v p .place ≡ Place.Trying i → (q : ℕ) → ownGuard (v p) i .partner ≡ q → Bound (v q) → guardsMatch p (ownGuard (v p) i) q (ownGuard (v q) j) ≡ true
       → ((r k l : ℕ) → Commits (v r .place) k l → q ≡ ownGuard (v r) k .partner → ⊥)
-      → Inv n next (upd v p (atPlace (v p) (Place.Committed i j)))
+      → Inv head (upd v p (atPlace (v p) (Place.Committed i j)))
   committed i j e q z b f only =
       let rightly : (a c : ℕ) → (i ≡ a) × (j ≡ c) → Committing v p a c = λ a c g. rw (← g .0, ← g .1) (record { to = λ r ne m. let t : q ≡ r = sym z ∙ m in (rw (← t) b, rw (← t) f); only = λ r k l ne c m. only r k l c (sym z ∙ m) }) in
       moves v inv p _ e _ _ _ (fine v inv p _ e) (at-on v inv p i (rw e refl)) (search (absurd, inr, rightly, free v inv p _ e))
 
   -- an accepted offer: the list is new, and nothing is said of a process at E but that its ticket is the next one, which then grows
-  pub inv-offered : (id : TransactionId) (list : GuardList) (after : ℕ) → id .0 ≡ next → next < after → v p .place ≡ Place.Idle → p < n → listFits n p (list .count) (slots (take (list .count) (list .guards))) ≡ true
-      → Inv n after (upd v p (entering (v p) id list))
+  pub inv-offered : (list : GuardList) → v p .place ≡ Place.Idle → p < head .n → listFits (head .n) p (list .count) (slots (take (list .count) (list .guards))) ≡ true
+      → Inv (withNext head (head .next .0 + 1)) (upd v p (entering (v p) (head .next) list))
   unfolding entering
-  inv-offered id list after z grows e h fits = put-inv v p _ later (record { fine = fine v inv p _ e; own = fits; on = tt; there = λ _. h; given = λ _. omega arith })
+  inv-offered list e h fits = put-inv v p _ later (record { fine = fine v inv p _ e; own = fits; on = tt; there = λ _. h; given = λ _. omega arith })
       (λ r ne. record {
         past = λ k l f g h. g;
         tries = λ k l f g h. absurd g;
@@ -146,20 +147,20 @@ module _ {n next : ℕ} (v : View) (inv : Inv n next v) (p : ℕ) where
         differ = λ b _ f. omega (arith, inv .alone r .given b);
       })
     where
-      later : Inv n after v
+      later : Inv (withNext head (head .next .0 + 1)) v
       later = record {
         alone = λ q. let a = inv .alone q in record { fine = a .fine; own = a .own; on = a .on; there = a .there; given = λ b. omega (arith, a .given b) };
         paired = inv .paired;
       }
 
-  pub inv-collected : (i : ℕ) (m : Message) → v p .place ≡ Place.Met i m → Inv n next (upd v p (atPlace (v p) Place.Idle))
+  pub inv-collected : (i : ℕ) (m : Message) → v p .place ≡ Place.Met i m → Inv head (upd v p (atPlace (v p) Place.Idle))
   inv-collected i m e = moves v inv p _ e _ _ _ (fine v inv p _ e) tt (search (absurd, free v inv p _ e))
 
-module _ {n next : ℕ} (v : View) (inv : Inv n next v) (p i j : ℕ) where
+module _ {head : Head} (v : View) (inv : Inv head v) (p i j : ℕ) where
   -- the partner first, then the mover
   rule-7 : let q = ownGuard (v p) i .partner in v p .place ≡ Place.Trying i → v q .accepting ≡ true
-      → guardsMatch p (ownGuard (v p) i) q (postedGuard (v q) j) ≡ true → Inv n next (upd (upd v q (withAccepting (v q) false)) p (atPlace (v p) (Place.Committed i j)))
-  rule-7 e z f = subst (λ (x : Process). x .place ≡ Place.Trying i → ownGuard x i .partner ≡ q → guardsMatch p (ownGuard x i) q (ownGuard (u q) j) ≡ true → Inv n next (upd u p (atPlace x (Place.Committed i j)))) up
+      → guardsMatch p (ownGuard (v p) i) q (postedGuard (v q) j) ≡ true → Inv head (upd (upd v q (withAccepting (v q) false)) p (atPlace (v p) (Place.Committed i j)))
+  rule-7 e z f = subst (λ (x : Process). x .place ≡ Place.Trying i → ownGuard x i .partner ≡ q → guardsMatch p (ownGuard x i) q (ownGuard (u q) j) ≡ true → Inv head (upd u p (atPlace x (Place.Committed i j)))) up
       (λ e′ z′ f′. committed u (woken v inv q z) p i j e′ q z′ (rw uq (record { shows = s; woken = refl; deaf = shown v inv q s .deaf z })) f′ only)
       e refl (rw uq (rw (shown v inv q s .posted) at f))
     where
@@ -184,9 +185,9 @@ module _ {n next : ℕ} (v : View) (inv : Inv n next v) (p i j : ℕ) where
           (λ r ne k l c m. false≢true (sym (inv .paired r q ne .bound k l c (sym m) .0 .woken) ∙ z))
 
   -- the mover first, then the partner: no other process has committed to it
-  rule-9 : let q = ownGuard (v p) i .partner in (k : ℕ) (m : Message) (signal : Signal) → v p .place ≡ Place.Committed i j → Inv n next (upd (upd v q (withSignal (v q) signal)) p (atPlace (v p) (Place.Met k m)))
+  rule-9 : let q = ownGuard (v p) i .partner in (k : ℕ) (m : Message) (signal : Signal) → v p .place ≡ Place.Committed i j → Inv head (upd (upd v q (withSignal (v q) signal)) p (atPlace (v p) (Place.Met k m)))
   rule-9 k m signal e = rw (upd-comm v p q (atPlace (v p) (Place.Met k m)) (withSignal (v q) signal) ne)
-      (subst (λ (y : Process). Bound y → Inv n next (upd u q (withSignal y signal))) uq (λ b. told u met q signal b alone) (commit-binds v inv p i j e .0))
+      (subst (λ (y : Process). Bound y → Inv head (upd u q (withSignal y signal))) uq (λ b. told u met q signal b alone) (commit-binds v inv p i j e .0))
     where
       q : ℕ
       q = ownGuard (v p) i .partner
@@ -194,7 +195,7 @@ module _ {n next : ℕ} (v : View) (inv : Inv n next v) (p i j : ℕ) where
       u : View
       u = upd v p (atPlace (v p) (Place.Met k m))
 
-      met : Inv n next u
+      met : Inv head u
       met = moves v inv p _ e _ _ _ (fine v inv p _ e) tt (search (absurd, free v inv p _ e))
 
       ne : p ≡ q → ⊥
@@ -210,8 +211,8 @@ module _ {n next : ℕ} (v : View) (inv : Inv n next v) (p i j : ℕ) where
           (h .by) (h .at) (h .kept) (h .there) (h .names)
 
 -- The rules, by the place and what they read. Most say nothing new of any guard, so that nothing is left to show but what holds of the mover alone.
-module _ {n next : ℕ} (v : View) (inv : Inv n next v) (p : ℕ) where
-  inv-scan : (i : ℕ) → v p .place ≡ Place.Scanning i → let q = ownGuard (v p) i .partner in (s : State) → stateOf (v q .place) ≡ s → (older : Bool) → Inv n next (effected v p q (scan (v p) i s older))
+module _ {head : Head} (v : View) (inv : Inv head v) (p : ℕ) where
+  inv-scan : (i : ℕ) → v p .place ≡ Place.Scanning i → let q = ownGuard (v p) i .partner in (s : State) → stateOf (v q .place) ≡ s → (older : Bool) → Inv head (effected v p q (scan (v p) i s older))
   inv-scan i e State.Running f older = rule-3 v inv p i e (rw f tt)
   inv-scan i e State.Sleeping f older = rule-3 v inv p i e (rw f tt)
   inv-scan i e State.Waiting f older = rule-4 v inv p i e (rw f tt)
@@ -219,19 +220,19 @@ module _ {n next : ℕ} (v : View) (inv : Inv n next v) (p : ℕ) where
   inv-scan i e State.Alt f false = inv
 
   inv-try : (i : ℕ) → v p .place ≡ Place.Trying i → let q = ownGuard (v p) i .partner in
-      (accepting : Bool) → v q .accepting ≡ accepting → (found : Found) → Searched p (ownGuard (v p) i) q (postedList (v q)) found → Inv n next (effected v p q (try (v p) i (v q) accepting found))
+      (accepting : Bool) → v q .accepting ≡ accepting → (found : Found) → Searched p (ownGuard (v p) i) q (postedList (v q)) found → Inv head (effected v p q (try (v p) i (v q) accepting found))
   inv-try i e true f (Found.At j) s = rule-7 v inv p i j e f s
   inv-try i e true f Found.Missing s = rule-8 v inv p i e (λ l z g. s l (rw (shown v inv _ (accepts v inv _ z) .posted) g))
   inv-try i e false f (Found.At j) s = rule-8 v inv p i e (λ l z g. false≢true (sym f ∙ z))
   inv-try i e false f Found.Missing s = rule-8 v inv p i e (λ l z g. false≢true (sym f ∙ z))
 
-  inv-absorb : v p .place ≡ Place.Waiting → (signal : Signal) → v p .signal ≡ signal → Inv n next (effected v p 0 (absorb (v p) signal))
+  inv-absorb : v p .place ≡ Place.Waiting → (signal : Signal) → v p .signal ≡ signal → Inv head (effected v p 0 (absorb (v p) signal))
   inv-absorb e Signal.Absent f = inv
   inv-absorb e (Signal.Present j m) f =
       let b : (x : Process) → Held v p → Bound x = λ x h. absurd (absent-present _ j m (held v inv p h .deaf) f) in
       moves v inv p _ e _ _ _ (told-woken _ _ j m (fine v inv p _ e .deaf) f, refl) tt (search (absurd, b))
 
-  inv-at : (pl : Place) → v p .place ≡ pl → let q = namedBy (v p) (indexOf pl) in Inv n next (effected v p q (ruleAt p (v p) q (v q) pl))
+  inv-at : (pl : Place) → v p .place ≡ pl → let q = namedBy (v p) (indexOf pl) in Inv head (effected v p q (ruleAt p (v p) q (v q) pl))
   unfolding handOver
   inv-at Place.Idle e = inv
   inv-at Place.Entering e = enter v inv p _ _ e (λ a. a) refl (fine v inv p _ e)
@@ -246,6 +247,6 @@ module _ {n next : ℕ} (v : View) (inv : Inv n next v) (p : ℕ) where
   inv-at (Place.Met i m) e = inv
 
 -- a step keeps the invariant
-pub inv-rule : {n next : ℕ} (v : View) → Inv n next v → (p : ℕ) → let q = partnerOf (v p) in Inv n next (effected v p q (rule p (v p) q (v q)))
+pub inv-rule : {head : Head} (v : View) → Inv head v → (p : ℕ) → let q = partnerOf (v p) in Inv head (effected v p q (rule p (v p) q (v q)))
 unfolding rule
 inv-rule v inv p = inv-at v inv p (v p .place) refl

@@ -10,6 +10,7 @@ use Rattle.process.specs.declared.Process.{Process}
 use Rattle.process.specs.Process.{indexOf, ownList, postedList, ownGuard, isIdle}
 use Rattle.process.specs.Rules.{changed}
 use Rattle.process.specs.Fits.{listFits}
+use Rattle.rendezvous.specs.declared.Head.{Head}
 use Rattle.history.proofs.View.{View, upd, entered-each, upd-pair}
 use Rattle.history.proofs.Invariant.{Past, Tries, Commits, Waits, Shows, OnAt, Fine, Alone, Bound, Paired, Inv}
 use Rattle.history.proofs.Matches.{match-comm}
@@ -44,11 +45,11 @@ pub record Tame (v : View) (p : ℕ) (pl : Place) (x : Process) : Type 0 where
   pub bound : Held v p → Bound x
   pub busy : isIdle (x .place) ≡ false → isIdle pl ≡ false
 
-pub put-inv : {n next : ℕ} (v : View) (p : ℕ) (x : Process) → Inv n next v → Alone n next p x
-    → ((r : ℕ) → (r ≡ p → ⊥) → Paired p r x (v r)) → ((r : ℕ) → (r ≡ p → ⊥) → Paired r p (v r) x) → Inv n next (upd v p x)
-put-inv {n} {next} v p x inv s a b = record { alone = entered-each (Alone n next) v p x s (λ q _. inv .alone q); paired = upd-pair Paired v p x (inv .paired) a b }
+pub put-inv : {head : Head} (v : View) (p : ℕ) (x : Process) → Inv head v → Alone head p x
+    → ((r : ℕ) → (r ≡ p → ⊥) → Paired p r x (v r)) → ((r : ℕ) → (r ≡ p → ⊥) → Paired r p (v r) x) → Inv head (upd v p x)
+put-inv {head} v p x inv s a b = record { alone = entered-each (Alone head) v p x s (λ q _. inv .alone q); paired = upd-pair Paired v p x (inv .paired) a b }
 
-module _ {n next : ℕ} (v : View) (inv : Inv n next v) (p : ℕ) where
+module _ {head : Head} (v : View) (inv : Inv head v) (p : ℕ) where
   pub held : Held v p → Bound (v p)
   held h = inv .paired (h .by) p (h .other) .bound (h .at) (h .kept) (h .there) (h .names) .0
 
@@ -102,7 +103,7 @@ module _ {n next : ℕ} (v : View) (inv : Inv n next v) (p : ℕ) where
             differ = λ b c z. w .differ c b (sym z);
           }
 
-      pub tame : Fine (x .place) (ownList x) (postedList x) (x .accepting) (x .signal) → listFits n p (x .count) (x .guards) ≡ true → OnAt (ownList x) (indexOf (x .place)) → Inv n next (upd v p x)
+      pub tame : Fine (x .place) (ownList x) (postedList x) (x .accepting) (x .signal) → listFits (head .n) p (x .count) (x .guards) ≡ true → OnAt (ownList x) (indexOf (x .place)) → Inv head (upd v p x)
       tame f own on = put-inv v p x inv (record {
         fine = f;
         own = own;
@@ -113,5 +114,5 @@ module _ {n next : ℕ} (v : View) (inv : Inv n next v) (p : ℕ) where
 
     -- a move that leaves the lists alone
     pub moves : (place : Place) (signal : Signal) (accepting : Bool) → let x = changed (v p) place signal accepting in
-        Fine place (ownList (v p)) (postedList (v p)) accepting signal → OnAt (ownList (v p)) (indexOf place) → Tame v p pl x → Inv n next (upd v p x)
+        Fine place (ownList (v p)) (postedList (v p)) accepting signal → OnAt (ownList (v p)) (indexOf place) → Tame v p pl x → Inv head (upd v p x)
     moves place signal accepting f on t = tame _ refl refl t f (inv .alone p .own) on
