@@ -74,7 +74,7 @@ module _ {t : ProcessTable} (good : Good t) {b : History} (k : InStep t b) (p : 
     });
     ticket = tt;
     outcome = tt;
-    in-step = subst⁻¹ (λ (v : View). InStepOf (t .head .next .0) v after) (put-two good p _ below q _ (partner .below)) (record {
+    goes-on = subst⁻¹ (λ (v : View). InStepOf (t .head .next .0) v after) (put-two good p _ below q _ (partner .below)) (record {
       counts = k .counts;
       each = each-two (process t) after p q _ _ refl refl mine theirs others;
       once = once-commits (k .once) p q (offerBy x) (offerBy y) _ (partner .other) open-p open-q refl refl;

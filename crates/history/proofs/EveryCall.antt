@@ -32,7 +32,7 @@ use Rattle.history.proofs.Awaited.{awaited-put}
 use Rattle.history.proofs.Due.{listsOf, Agrees, InStepOf, InStep, none-due, offer-at, owed-at, due-at, agrees-other, lists-same}
 use Rattle.history.proofs.Followed.{Followed, joins-none, turned-away}
 use Rattle.history.proofs.Commit.{step-followed}
-use Rattle.history.proofs.EveryList.{Follows}
+use Rattle.history.proofs.EveryList.{FollowsOn}
 
 module _ {t : ProcessTable} (good : Good t) {b : History} (k : InStep t b) (p : ℕ) where
   offer-followed : (gs : List Guard) → Admitted t p (lent gs) → Followed t b (Offer p gs) (offered t p (lent gs))
@@ -44,7 +44,7 @@ module _ {t : ProcessTable} (good : Good t) {b : History} (k : InStep t b) (p : 
     joins = joins-none b;
     ticket = inr (ap ticket (sym (k .counts)));
     outcome = tt;
-    in-step = subst⁻¹ (λ (v : View). InStepOf (t .head .next .0 + 1) v after) (put-one good p x (a .below)) (record {
+    goes-on = subst⁻¹ (λ (v : View). InStepOf (t .head .next .0 + 1) v after) (put-one good p x (a .below)) (record {
       counts = omega (arith, k .counts);
       each = entered-each (Agrees (listsOf (upd (process t) p x)) after) (process t) p x own others;
       once = once-offers (k .once) p gs;
@@ -87,7 +87,7 @@ module _ {t : ProcessTable} (good : Good t) {b : History} (k : InStep t b) (p : 
     joins = joins-none b;
     ticket = tt;
     outcome = inr (_, due-at (k .each p) e, refl);
-    in-step = subst⁻¹ (λ (v : View). InStepOf (t .head .next .0) v after) (put-one good p x below) (record {
+    goes-on = subst⁻¹ (λ (v : View). InStepOf (t .head .next .0) v after) (put-one good p x below) (record {
       counts = k .counts;
       each = rw (lists-same (process t) p x refl) (entered-each (Agrees (listsOf (process t)) after) (process t) p x own others);
       once = k .once;
@@ -120,7 +120,7 @@ pub record Sound (t : ProcessTable) (b : History) : Type 0 where
   pub good : Good t
   pub in-step : InStep t b
 
-pub follows : (t : ProcessTable) (b : History) → Sound t b → (c : Call) → Follows tables Sound t b c
+pub follows : (t : ProcessTable) (b : History) → Sound t b → (c : Call) → FollowsOn tables Sound t b c
 follows t b s c =
     let f = followed t b (s .good) (s .in-step) c in
     record {
@@ -130,5 +130,5 @@ follows t b s c =
       joins = f .joins;
       ticket = f .ticket;
       outcome = f .outcome;
-      goes-on = record { good = good-after t (s .good) c; in-step = f .in-step };
+      goes-on = record { good = good-after t (s .good) c; in-step = f .goes-on };
     }

@@ -7,19 +7,23 @@ use mathlib.Core.Option.{some, Option·some-injective}
 use Rattle.alternative.specs.Guards.{offersMatch}
 use Rattle.rendezvous.specs.Numbers.{Said}
 use Rattle.rendezvous.specs.Run.{Call, afterAll}
-use Rattle.history.specs.Book.{Transaction, Rendezvous, Joined, History, seen, enter}
+use Rattle.history.specs.Book.{Transaction, Rendezvous, Moment, Joined, History, seen, enter}
 use Rattle.history.specs.Machine.{Machine, bookAfterAll, madeByAll, EachCall}
 use Rattle.history.specs.Demand3.{Joins, EntryJoins, TicketIsNext, OutcomeWasDue, idsOf, AllDiffer, Claim}
 
--- The book follows a call from state s and book b: it is not stuck, it has the moments, ticket or outcome of the call, and what R says of the two goes on.
-pub record Follows (m : Machine) (R : m .State → History → Type 0) (s : m .State) (b : History) (c : Call) : Type 0 where
+-- The book b follows a call that says this and makes these moments: it is not stuck, it has the moments, ticket or outcome of the call, and R holds of the book after it.
+pub record Follows (b : History) (c : Call) (says : Said) (makes : List Moment) (R : History → Type 0) : Type 0 where
   pub after : History
-  pub entered : enter b c (seen (m .says s c)) ≡ some after
-  pub run : after .run ≡ b .run ++ m .makes s c
-  pub joins : (r : Rendezvous) → m .makes s c ≡ Joined r ∷ [] → Joins b r
-  pub ticket : TicketIsNext b c (m .says s c) after
-  pub outcome : OutcomeWasDue b c (m .says s c) after
-  pub goes-on : R (m .after s c) after
+  pub entered : enter b c (seen says) ≡ some after
+  pub run : after .run ≡ b .run ++ makes
+  pub joins : (r : Rendezvous) → makes ≡ Joined r ∷ [] → Joins b r
+  pub ticket : TicketIsNext b c says after
+  pub outcome : OutcomeWasDue b c says after
+  pub goes-on : R after
+
+-- on a machine from state s, where R relates states and books
+abbrev pub FollowsOn : (m : Machine) → (m .State → History → Type 0) → m .State → History → Call → Type 0
+FollowsOn m R s b c = Follows b c (m .says s c) (m .makes s c) (R (m .after s c))
 
 -- what the claim says of a state and its book, after the last call
 pub record Ends (m : Machine) (s : m .State) (b : History) : Type 0 where
@@ -44,7 +48,7 @@ unfolding EachCall
 each-call m Fact s b c cs after e first rest other f =
     subst (λ (h : History). Fact b c (m .says s c) h × EachCall m Fact (m .after s c) h cs) (Option·some-injective after other (sym e ∙ f)) (first, rest)
 
-module _ (m : Machine) (R : m .State → History → Type 0) (follows : (s : m .State) (b : History) → R s b → (c : Call) → Follows m R s b c) where
+module _ (m : Machine) (R : m .State → History → Type 0) (follows : (s : m .State) (b : History) → R s b → (c : Call) → FollowsOn m R s b c) where
   pub reaches : (s : m .State) (b : History) → R s b → (calls : List Call) → Reaches m R s b calls
   unfolding bookAfterAll madeByAll EachCall afterAll
   reaches s b r [] = record { book = b; never-stuck = refl; related = r; run = sym (append-nil (b .run)); joins = tt; tickets = tt; collections = tt }

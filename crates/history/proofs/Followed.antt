@@ -23,7 +23,7 @@ use Rattle.rendezvous.specs.Table.{process, put}
 use Rattle.process.proofs.PlaceCases.{if-committed}
 use Rattle.process.specs.Rules.{Own, atPlace, scanAt, scanFrom, scan, handOver, absorb}
 use Rattle.rendezvous.specs.Calls.{refused, applied}
-use Rattle.rendezvous.specs.Numbers.{refusalNumber, said}
+use Rattle.rendezvous.specs.Numbers.{Said, refusalNumber, said}
 use Rattle.rendezvous.specs.Run.{Call, Offer, Step, Collect}
 use Rattle.history.specs.Book.{Rendezvous, Moment, Joined, History, seen, stepping, enter}
 use Rattle.history.specs.NothingLost.{isOwed, isDue}
@@ -36,26 +36,21 @@ use Rattle.history.proofs.Places.{told-woken}
 use Rattle.history.proofs.Facts.{fine, at-names, shown, commit-binds}
 use Rattle.history.proofs.GoodTable.{put-one, put-there, put-two}
 use Rattle.history.proofs.Awaited.{awaited-put, hidden, awaited-signal}
+use Rattle.history.proofs.EveryList.{Follows}
 use Rattle.history.proofs.Due.{listsOf, DueBy, Agrees, InStepOf, InStep, lists-same, offer-at, owed-at, due-at, each-two}
 
--- the book follows a call on table t: it is not stuck, it has the rendezvous, ticket or outcome of the call, and it goes with the table handed back
-pub record Followed (t : ProcessTable) (b : History) (c : Call) (reply : Reply) : Type 0 where
-  pub after : History
-  pub entered : enter b c (seen (said (reply .answer))) ≡ some after
-  pub run : after .run ≡ b .run ++ madeBy t c (reply .table)
-  pub joins : (r : Rendezvous) → madeBy t c (reply .table) ≡ Joined r ∷ [] → Joins b r
-  pub ticket : TicketIsNext b c (said (reply .answer)) after
-  pub outcome : OutcomeWasDue b c (said (reply .answer)) after
-  pub in-step : InStep (reply .table) after
+-- on table t, where the call replies so: the book goes with the table handed back
+abbrev pub Followed : ProcessTable → History → Call → Reply → Type 0
+Followed t b c reply = Follows b c (said (reply .answer)) (madeBy t c (reply .table)) (InStep (reply .table))
 
 -- a call that is no commit
 pub joins-none : (b : History) (r : Rendezvous) → [] ≡ Joined r ∷ [] → Joins b r
 joins-none b r e = let z : _≡_ {A = ℕ} 0 1 = cc in absurd (omega arith)
 
 -- a call at which nothing is entered
-enters-nothing : {t : ProcessTable} {b : History} (c : Call) (reply : Reply) → enter b c (seen (said (reply .answer))) ≡ some b → madeBy t c (reply .table) ≡ []
-    → TicketIsNext b c (said (reply .answer)) b → OutcomeWasDue b c (said (reply .answer)) b → InStep (reply .table) b → Followed t b c reply
-enters-nothing {t} {b} c reply e z i o k = record { after = b; entered = e; run = rw (z, append-nil (b .run)); joins = λ r f. joins-none b r (sym z ∙ f); ticket = i; outcome = o; in-step = k }
+enters-nothing : {b : History} {R : History → Type 0} (c : Call) (says : Said) (makes : List Moment) → enter b c (seen says) ≡ some b → makes ≡ []
+    → TicketIsNext b c says b → OutcomeWasDue b c says b → R b → Follows b c says makes R
+enters-nothing {b} c says makes e z i o k = record { after = b; entered = e; run = rw (z, append-nil (b .run)); joins = λ r f. joins-none b r (sym z ∙ f); ticket = i; outcome = o; goes-on = k }
 
 -- a step makes nothing that takes p elsewhere than to C, or leaves it where it is
 none-made : (b : Bool) (ms : List Moment) → ms ≡ [] → cond b ms [] ≡ []
@@ -67,9 +62,9 @@ stays-made t p pl = if-committed (λ ms. cond (isAt "T" pl) ms [] ≡ []) [] _ p
 
 pub turned-away : (t : ProcessTable) (b : History) (c : Call) → InStep t b → (r : Refusal) → Followed t b c (refused r t)
 unfolding enter
-turned-away t b (Offer p gs) k r = enters-nothing _ _ refl refl (inl (refusalNumber r, refl)) tt k
-turned-away t b (Step p) k r = enters-nothing _ _ refl (stays-made t p (process t p .place)) tt tt k
-turned-away t b (Collect p) k r = enters-nothing _ _ refl refl tt (inl (refusalNumber r, refl)) k
+turned-away t b (Offer p gs) k r = enters-nothing _ _ _ refl refl (inl (refusalNumber r, refl)) tt k
+turned-away t b (Step p) k r = enters-nothing _ _ _ refl (stays-made t p (process t p .place)) tt tt k
+turned-away t b (Collect p) k r = enters-nothing _ _ _ refl refl tt (inl (refusalNumber r, refl)) k
 
 -- p moves from place pl to the new record x, with its list: no commit is entered, the book goes with the record, p was not at C, and x is bound only if the old record was
 pub record Moving (t : ProcessTable) (b : History) (p : ℕ) (pl : Place) (x : Process) : Type 0 where
@@ -83,12 +78,12 @@ pub record Moving (t : ProcessTable) (b : History) (p : ℕ) (pl : Place) (x : P
 module _ {t : ProcessTable} (good : Good t) {b : History} (k : InStep t b) (p : ℕ) (below : p < t .head .n) where
   pub stays : Followed t b (Step p) (record { answer = Answer.Unchanged; table = t })
   unfolding enter
-  stays = enters-nothing _ _ refl (stays-made t p (process t p .place)) tt tt k
+  stays = enters-nothing _ _ _ refl (stays-made t p (process t p .place)) tt tt k
 
   -- one record is new
   pub moves : (pl : Place) → process t p .place ≡ pl → (x : Process) → Moving t b p pl x → Followed t b (Step p) (record { answer = Answer.Moved (x .place); table = put t p x })
   unfolding enter
-  moves pl e x m = enters-nothing _ _ (m .book-stays) (none-made (isAt "T" (process t p .place)) (commitAt t p (process (put t p x) p .place)) (rw (put-there good p x below) (m .no-commit))) tt tt (subst⁻¹ (λ (v : View). InStepOf (t .head .next .0) v b) (put-one good p x below) (record {
+  moves pl e x m = enters-nothing _ _ _ (m .book-stays) (none-made (isAt "T" (process t p .place)) (commitAt t p (process (put t p x) p .place)) (rw (put-there good p x below) (m .no-commit))) tt tt (subst⁻¹ (λ (v : View). InStepOf (t .head .next .0) v b) (put-one good p x below) (record {
     counts = k .counts;
     each = rw (lists-same (process t) p x (m .list)) (entered-each (Agrees (listsOf (process t)) b) (process t) p x (m .agrees) (λ r _. k .each r));
     once = k .once;
@@ -135,7 +130,7 @@ module _ {t : ProcessTable} (good : Good t) {b : History} (k : InStep t b) (p : 
       let binds = commit-binds (process t) (good .inv) p i j e in
       let due = due-at (k .each p) e in
       let not-tried : isAt "T" (process t p .place) ≡ false = rw e refl in
-      enters-nothing _ _ refl (rw not-tried refl) tt tt (subst⁻¹ (λ (v : View). InStepOf (t .head .next .0) v b) (put-two good p _ below q _ (at-names (process t) (good .inv) p i (rw e refl) .below)) (record {
+      enters-nothing _ _ _ refl (rw not-tried refl) tt tt (subst⁻¹ (λ (v : View). InStepOf (t .head .next .0) v b) (put-two good p _ below q _ (at-names (process t) (good .inv) p i (rw e refl) .below)) (record {
         counts = k .counts;
         each = each-two (process t) b p q _ _ refl refl
             (record { offer = offer-at (k .each p) e; owed = owed-at (k .each p) e; at = rw (shown (process t) (good .inv) q (binds .0 .shows) .posted) (due .mine); told = k .each p .told })
