@@ -12,7 +12,7 @@ use Rattle.process.specs.declared.Signal.{Signal}
 use Rattle.process.specs.declared.Place.{Place}
 use Rattle.process.specs.declared.Process.{Process}
 use Rattle.rendezvous.specs.declared.ProcessTable.{ProcessTable}
-use Rattle.process.specs.Process.{ifMet, ifCommitted, ownList, ownGuard, openAt, isOpen}
+use Rattle.process.specs.Process.{carried, ownList, ownGuard, openAt, isOpen}
 use Rattle.rendezvous.specs.Table.{process}
 use Rattle.history.specs.Book.{Transaction, Due, History}
 use Rattle.history.specs.Tables.{offerBy}
@@ -36,9 +36,8 @@ pub record Pledged (lists : ℕ → List Guard) (due : ℕ → Option Due) (p i 
 
 -- due by the place of p, whose own list is gs; at the other places nothing is asked
 abbrev pub DueAt : (ℕ → List Guard) → (ℕ → Option Due) → ℕ → List Guard → Place → Type 0
-DueAt lists due p gs place = ifCommitted
-    (ifMet (Unit {0}) (λ i m. due p ≡ some (record { index = i; partner = getD gs i blank .partner; message = m })) place)
-    (λ i j. Pledged lists due p i (getD gs i blank) j) place
+DueAt lists due p gs place = carried (Unit {0}) (λ i. Unit {0}) (λ i j. Pledged lists due p i (getD gs i blank) j)
+    (λ i m. due p ≡ some (record { index = i; partner = getD gs i blank .partner; message = m })) place
 
 -- due by a signal
 abbrev pub DueBy : List Guard → Signal → Option Due → Type 0

@@ -54,19 +54,19 @@ module _ {t : ProcessTable} (good : Good t) (p : ℕ) where
         put-view (put t q y) p x (omega (arith, good .long, good .most, length-set (t .processes) q y))
         ∙ ap (λ (v : View). upd v p x) (put-view t q y (omega (arith, good .long, good .most)))
 
-    good-put : Inv (t .head) (upd (process t) p x) → Formed (t .head .n) p x → Good (put t p x)
+    good-put : Inv (t .head) (upd (process t) p x) → AllFormed (t .head .n) (upd (process t) p x) → Good (put t p x)
     good-put inv f = record {
       long = length-set (t .processes) p x ∙ good .long;
       least = good .least;
       most = good .most;
       inv = rw put-one inv;
-      formed = subst⁻¹ (AllFormed (t .head .n)) put-one (with-own (process t) (good .inv) (good .formed) p x f);
+      formed = subst⁻¹ (AllFormed (t .head .n)) put-one f;
     }
 
   good-applied : p < t .head .n → (q : ℕ) → q < t .head .n → (effect : Effect) → Inv (t .head) (effected (process t) p q effect)
       → AllFormed (t .head .n) (effected (process t) p q effect) → Good (applied t p q effect .table)
   good-applied h q l Neither inv f = good
-  good-applied h q l (Own x) inv f = record { long = length-set (t .processes) p x ∙ good .long; least = good .least; most = good .most; inv = rw (put-one x h) inv; formed = subst⁻¹ (AllFormed (t .head .n)) (put-one x h) f }
+  good-applied h q l (Own x) inv f = good-put x h inv f
   good-applied h q l (Both x y) inv f = record {
     long = length-set (set (t .processes) q y) p x ∙ length-set (t .processes) q y ∙ good .long;
     least = good .least;
@@ -98,7 +98,7 @@ pub good-after : (t : ProcessTable) → Good t → (c : Call) → Good (tableAft
 unfolding replyTo
 good-after t good (Offer p gs) = offer-elim (λ r. Good (r .table)) t (λ r. good) p gs (good-offered good p gs)
 good-after t good (Step p) = step-elim (λ r. Good (r .table)) t (λ r. good) p (good-stepped good p)
-good-after t good (Collect p) = collect-elim (λ r. Good (r .table)) t (λ r. good) p (λ h i m e. good-put good p _ h (inv-collected (process t) (good .inv) p i m e) (placed (good .formed p) Place.Idle tt))
+good-after t good (Collect p) = collect-elim (λ r. Good (r .table)) t (λ r. good) p (λ h i m e. good-put good p _ h (inv-collected (process t) (good .inv) p i m e) (with-own (process t) (good .inv) (good .formed) p _ (placed (good .formed p) Place.Idle tt)))
 
 -- the records of a fresh table
 pub fresh-each : (P : Process → Type 0) → P freshProcess → P nobody → (n p : ℕ) → P (process (freshTable n) p)
