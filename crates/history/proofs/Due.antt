@@ -14,6 +14,7 @@ use Rattle.process.specs.declared.Process.{Process}
 use Rattle.rendezvous.specs.declared.ProcessTable.{ProcessTable}
 use Rattle.process.specs.Process.{carried, ownList, ownGuard, openAt, isOpen}
 use Rattle.rendezvous.specs.Table.{process}
+use Rattle.process.proofs.PlaceCases.{both-carried}
 use Rattle.history.specs.Book.{Transaction, Due, History}
 use Rattle.history.specs.Tables.{offerBy}
 use Rattle.history.specs.NothingLost.{isOwed, isDue}
@@ -82,17 +83,8 @@ module _ (lists lists' : ℕ → List Guard) (due due' : ℕ → Option Due) (p 
   at-other : (gs : List Guard) (place : Place)
       → ((i j : ℕ) → place ≡ Place.Committed i j → (lists' (getD gs i blank .partner) ≡ lists (getD gs i blank .partner)) × (due' (getD gs i blank .partner) ≡ due (getD gs i blank .partner)))
       → DueAt lists due p gs place → DueAt lists' due' p gs place
-  at-other gs Place.Idle h d = tt
-  at-other gs Place.Entering h d = tt
-  at-other gs (Place.Scanning i) h d = tt
-  at-other gs (Place.Trying i) h d = tt
-  at-other gs (Place.Committed i j) h d = let r = h i j refl in record { mine = rw (same, r .0) (d .mine); theirs = r .1 ∙ d .theirs }
-  at-other gs Place.Posting h d = tt
-  at-other gs Place.Opening h d = tt
-  at-other gs Place.Showing h d = tt
-  at-other gs Place.Asleep h d = tt
-  at-other gs Place.Waiting h d = tt
-  at-other gs (Place.Met i m) h d = same ∙ d
+  at-other gs place h = both-carried (λ (a b : Type 0). a → b) _ _ _ _ _ _ _ _ place (λ d. tt) (λ i e d. tt)
+      (λ i j e d. let r = h i j e in record { mine = rw (same, r .0) (d .mine); theirs = r .1 ∙ d .theirs }) (λ i m e d. same ∙ d)
 
 pub agrees-other : (lists lists' : ℕ → List Guard) (b b' : History) (p : ℕ) (x : Process) → b' .opened p ≡ b .opened p → b' .due p ≡ b .due p
     → ((i j : ℕ) → x .place ≡ Place.Committed i j → (lists' (ownGuard x i .partner) ≡ lists (ownGuard x i .partner)) × (b' .due (ownGuard x i .partner) ≡ b .due (ownGuard x i .partner)))

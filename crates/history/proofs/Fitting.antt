@@ -8,14 +8,14 @@ use native.Mathlib.Omega.{arith}
 use lib.Dec.{ltb}
 use borrow.Author.Tests.{le-leb}
 use Rattle.process.specs.declared.Place.{Place}
-use Rattle.process.specs.Process.{indexOf, ifMet, ownGuard}
+use Rattle.process.specs.Process.{indexOf, ownGuard}
 use Rattle.process.specs.Rules.{partnerOf}
 use Rattle.process.proofs.PlaceCases.{by-carried}
 use Rattle.process.specs.Fits.{placeFits, processFits}
 use Rattle.rendezvous.specs.declared.ProcessTable.{ProcessTable}
 use Rattle.rendezvous.specs.Table.{process}
 use Rattle.rendezvous.specs.WellFormed.{allBelow, countFits, fitsAt, wellFormed}
-use Rattle.history.proofs.Invariant.{Good}
+use Rattle.history.proofs.Invariant.{OutcomeFits, Good}
 use Rattle.history.proofs.Matches.{match}
 use Rattle.history.proofs.Facts.{at-on, shown, commit-binds}
 use Rattle.history.proofs.Formed.{on-below}
@@ -43,7 +43,7 @@ module _ (t : ProcessTable) (good : Good t) where
           rw e (on-below (process t q .altlist) (process t q .altcount) j (rw (shown (process t) (good .inv) q (b .0 .shows) .posted) (match (b .1) .there)))
 
       outcome : (i : ℕ) (m : Message) → process t p .place ≡ Place.Met i m → ltb i (process t p .count) ≡ true
-      outcome i m e = subst (λ (l : Place). ifMet (Unit {0}) (λ i m. ltb i (process t p .count) ≡ true) l) e (good .formed p .outcome)
+      outcome i m e = subst (OutcomeFits (process t p .count)) e (good .formed p .outcome)
 
   process-fits : (p : ℕ) → fitsAt t p ≡ true
   unfolding fitsAt processFits

@@ -14,16 +14,16 @@ use Rattle.process.specs.declared.Signal.{Signal}
 use Rattle.process.specs.declared.Place.{Place}
 use Rattle.process.specs.declared.State.{State}
 use Rattle.process.specs.declared.Process.{Process}
-use Rattle.process.specs.Process.{ifMet, stateOf, indexOf, ownList, postedList, ownGuard}
+use Rattle.process.specs.Process.{stateOf, indexOf, ownList, postedList, ownGuard}
 use Rattle.process.specs.Rules.{atPlace, scanAt, scanFrom, scan, try, handOver, absorb, ruleAt, rule, namedBy, partnerOf}
 use Rattle.process.specs.Fits.{signalFits}
 use Rattle.rendezvous.specs.declared.Head.{Head}
 use Rattle.history.proofs.View.{split, View, upd, effected, entered-each}
-use Rattle.history.proofs.Invariant.{On, Inv, Formed, AllFormed}
+use Rattle.history.proofs.Invariant.{On, Inv, OutcomeFits, Formed, AllFormed}
 use Rattle.history.proofs.Matches.{match}
 use Rattle.history.proofs.Facts.{at-on, commit-binds}
 
-pub placed : {n p : ℕ} {x : Process} → Formed n p x → (pl : Place) → ifMet (Unit {0}) (λ i m. ltb i (x .count) ≡ true) pl → Formed n p (atPlace x pl)
+pub placed : {n p : ℕ} {x : Process} → Formed n p x → (pl : Place) → OutcomeFits (x .count) pl → Formed n p (atPlace x pl)
 placed f pl o = record { posted = f .posted; signal = f .signal; outcome = o }
 
 -- an enabled guard of a list of count guards is there
@@ -44,7 +44,7 @@ module _ {head : Head} (v : View) (inv : Inv head v) (formed : AllFormed (head .
   unfolding scanFrom
   scanned q s = with-own _ (placed (formed p) _ (nowhere (nextEnabled (ownList (v p)) s)))
     where
-      nowhere : (f : Found) → ifMet (Unit {0}) (λ i m. ltb i (v p .count) ≡ true) (scanAt f)
+      nowhere : (f : Found) → OutcomeFits (v p .count) (scanAt f)
       nowhere (Found.At i) = tt
       nowhere Found.Missing = tt
 

@@ -148,11 +148,15 @@ pub record Inv (h : Head) (v : View) : Type 0 where
   pub alone : (p : ℕ) → Alone h p (v p)
   pub paired : (p q : ℕ) → (p ≡ q → ⊥) → Paired p q (v p) (v q)
 
+-- the index of an outcome has a guard in a list of count guards
+abbrev pub OutcomeFits : ℕ → Place → Type 0
+OutcomeFits count place = ifMet (Unit {0}) (λ i m. ltb i count ≡ true) place
+
 -- Of the record x of process p: the posted list, the signal and the outcome are as refusal 7 asks.
 pub record Formed (n p : ℕ) (x : Process) : Type 0 where
   pub posted : listFits n p (x .altcount) (x .altlist) ≡ true
   pub signal : signalFits (x .count) (x .signal) ≡ true
-  pub outcome : ifMet (Unit {0}) (λ i m. ltb i (x .count) ≡ true) (x .place)
+  pub outcome : OutcomeFits (x .count) (x .place)
 
 abbrev pub AllFormed : ℕ → View → Type 0
 AllFormed n v = (p : ℕ) → Formed n p (v p)

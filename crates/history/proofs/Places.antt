@@ -1,6 +1,6 @@
 -- Proof by the cases of a place: what the word of a process, its wake count and the invariant say of where it is.
 use Prim.Native.Nat.{ℕ}
-use mathlib.Core.Path.{_≡_, refl, sym, _∙_}
+use mathlib.Core.Path.{_≡_, refl, sym, _∙_, subst⁻¹}
 use mathlib.Core.List.{List}
 use mathlib.Core.Bool.{Bool, true, false, false≢true}
 use native.Mathlib.Omega.{arith}
@@ -9,6 +9,7 @@ use Rattle.alternative.specs.declared.Guard.{Guard}
 use Rattle.process.specs.declared.Signal.{Signal}
 use Rattle.process.specs.declared.Place.{Place}
 use Rattle.process.specs.Process.{isIdle}
+use Rattle.process.proofs.PlaceCases.{if-committed}
 use Rattle.history.proofs.Invariant.{Commits, Shows, Quiet, Waits, Fine}
 
 -- a fact of H and W holds where a process shows its list
@@ -27,17 +28,7 @@ shows-elim P a b (Place.Met i m) s = absurd s
 
 -- a fact of C
 pub commits-elim : (P : Place → Type 0) → ((i j : ℕ) → P (Place.Committed i j)) → (pl : Place) (a b : ℕ) → Commits pl a b → P pl
-commits-elim P f Place.Idle a b c = absurd c
-commits-elim P f Place.Entering a b c = absurd c
-commits-elim P f (Place.Scanning i) a b c = absurd c
-commits-elim P f (Place.Trying i) a b c = absurd c
-commits-elim P f (Place.Committed i j) a b c = f i j
-commits-elim P f Place.Posting a b c = absurd c
-commits-elim P f Place.Opening a b c = absurd c
-commits-elim P f Place.Showing a b c = absurd c
-commits-elim P f Place.Asleep a b c = absurd c
-commits-elim P f Place.Waiting a b c = absurd c
-commits-elim P f (Place.Met i m) a b c = absurd c
+commits-elim P f pl a b = if-committed (λ X. X → P pl) ⊥ _ pl (λ i j e _. subst⁻¹ P e (f i j)) absurd
 
 -- a fact of W
 pub waits-elim : (P : Place → Type 0) → P Place.Waiting → (pl : Place) → Waits pl → P pl

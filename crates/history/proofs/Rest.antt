@@ -18,7 +18,7 @@ use Rattle.process.specs.Rules.{scanFrom, scan, try, handOver, ruleAt, rule, na
 use Rattle.rendezvous.specs.Calls.{effectOn}
 use Rattle.alternative.proofs.Tests.{and-parts}
 use Rattle.history.specs.Book.{Transaction}
-use Rattle.history.specs.Tables.{openOffer}
+use Rattle.history.specs.Tables.{offerBy, openOffer}
 use Rattle.history.proofs.Invariant.{Past, QuietState, WaitingState, Good}
 use Rattle.history.proofs.Matches.{no-match}
 use Rattle.history.proofs.Facts.{at-names}
@@ -104,7 +104,7 @@ module _ (t : ProcessTable) (good : Good t) (none-moves : Still t) where
   open-past : (p : ℕ) (o : Transaction) → openOffer t p ≡ some o → ((k : ℕ) → Past (process t p .place) (process t p .accepting) k) × (ownList (process t p) ≡ o .guards)
   open-past p o e = at (hasOpenOffer t p) refl e
     where
-      at : (b : Bool) → hasOpenOffer t p ≡ b → cond b (some (record { id = process t p .transaction .0; guards = ownList (process t p) })) none ≡ some o
+      at : (b : Bool) → hasOpenOffer t p ≡ b → cond b (some (offerBy (process t p))) none ≡ some o
           → ((k : ℕ) → Past (process t p .place) (process t p .accepting) k) × (ownList (process t p) ≡ o .guards)
       at true f e =
           let a = and-parts (ltb p (t .head .n)) (isOpen (process t p)) f in

@@ -3,7 +3,7 @@ use Rattle.alternative.specs.Guards.{guardsMatch, offersMatch}
 use Rattle.rendezvous.specs.Table.{mostProcesses, freshTable}
 use Rattle.rendezvous.specs.Numbers.{Said, ticket, outcome, refusal}
 use Rattle.rendezvous.specs.Run.{Call, Offer, Step, Collect, afterAll}
-use Rattle.history.specs.Types.{ℕ, _≤_, _≡_, true, false, List, [], _∷_, _++_, _⊎_, Option, some, none, getElem?, Guard}
+use Rattle.history.specs.Types.{ℕ, _≤_, _≡_, true, false, List, [], _∷_, _++_, _⊎_, some, getElem?, Guard}
 use Rattle.history.specs.Book.{Transaction, Due, Rendezvous, Moment, Joined, History, emptyHistory}
 use Rattle.history.specs.Machine.{Machine, bookAfterAll, madeByAll, EachCall}
 use Rattle.history.specs.Tables.{tables}

@@ -9,7 +9,7 @@ use Rattle.rendezvous.specs.Table.{mostProcesses, process, withNext, freshHead,
 use Rattle.rendezvous.specs.Numbers.{Said, made, ticket, outcome, movers, refusal}
 use Rattle.rendezvous.specs.Run.{Call, Offer, tableAfter}
 use Rattle.rendezvous.specs.Commands.{New, Movers}
-use Rattle.history.specs.Types.{ℕ, _≡_, Bool, true, false, List, [], _∷_, _++_, Option, some, none, replicate, Message, Action, Guard, Place, Process}
+use Rattle.history.specs.Types.{ℕ, _≡_, Bool, true, false, List, [], _∷_, _++_, some, none, replicate, Message, Action, Guard, Place, Process}
 use Rattle.history.specs.Types.{ProcessTable}
 use Rattle.history.specs.Book.{Moment, Joined, emptyHistory, _>>=_}
 use Rattle.history.specs.Machine.{bookAfterAll, madeByAll}

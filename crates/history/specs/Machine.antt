@@ -1,7 +1,7 @@
 -- To be believed. What demand 3 speaks of, as any machine shows it that takes the calls; the table of document 01 is one (Tables).
 use Rattle.rendezvous.specs.Numbers.{Said}
 use Rattle.rendezvous.specs.Run.{Call}
-use Rattle.history.specs.Types.{ℕ, _≡_, List, [], _∷_, _++_, Option, some, none}
+use Rattle.history.specs.Types.{ℕ, _≡_, List, [], _∷_, _++_, Option, some}
 use Rattle.history.specs.Book.{Transaction, Moment, History, seen, _>>=_, enter}
 
 -- What a call says, what it leaves, and the moments of the run that it makes; the open offer of each process; and that "no task's step would change the desk".

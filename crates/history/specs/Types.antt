@@ -3,4 +3,4 @@ pub use Rattle.alternative.specs.Types.{ℕ, suc, _≤_, Char, code, _≡_, Boo
 pub use Rattle.alternative.specs.Types.{getElem?, replicate, eqb}
 pub use Rattle.alternative.specs.declared.{Message.Message, Action.Action, Guard.Guard, Found.Found}
 pub use Rattle.process.specs.declared.{Place.Place, Process.Process}
-pub use Rattle.rendezvous.specs.declared.{ProcessTable.ProcessTable, Answer.Answer}
+pub use Rattle.rendezvous.specs.declared.{ProcessTable.ProcessTable}

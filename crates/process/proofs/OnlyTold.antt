@@ -12,8 +12,9 @@ use Rattle.alternative.proofs.Tests.{and-parts}
 use Rattle.process.specs.Types.{Guard, Found, Signal, Place, State, Process}
 use Rattle.process.specs.Process.{stateOf, indexOf, ownList, postedList, ownGuard}
 use Rattle.process.specs.Rules.{Effect, Neither, Own, Both, changed, scanFrom, scan, try, handOver, absorb, ruleAt, rule, namedBy, partnerOf}
-use Rattle.process.specs.Fits.{allGuards, partnerFits, listFits, signalFits, placeFits, processFits}
+use Rattle.process.specs.Fits.{allGuards, partnerFits, listFits, signalFits, processFits}
 use Rattle.process.specs.InCode.{committedAt}
+use Rattle.process.proofs.PlaceCases.{both-carried}
 
 abbrev pub OnlyTold : Process → Effect → Type 0
 OnlyTold y Neither = Unit {0}
@@ -61,20 +62,8 @@ rule-only-told p x q y = at-only-told p x q y (x .place)
 pub fits-committed : (n p : ℕ) (x : Process) (posted : ℕ → ℕ) → processFits n p x (posted (committedAt x (x .place))) ≡ processFits n p x (posted (partnerOf x))
 unfolding processFits
 fits-committed n p x posted =
-    ap (λ (b : Bool). listFits n p (x .count) (x .guards) && (listFits n p (x .altcount) (x .altlist) && (signalFits (x .count) (x .signal) && b))) (go (x .place))
-  where
-    go : (place : Place) → placeFits (x .count) (posted (committedAt x place)) place ≡ placeFits (x .count) (posted (namedBy x (indexOf place))) place
-    go (Place.Committed i j) = refl
-    go Place.Idle = refl
-    go Place.Entering = refl
-    go (Place.Scanning i) = refl
-    go (Place.Trying i) = refl
-    go Place.Posting = refl
-    go Place.Opening = refl
-    go Place.Showing = refl
-    go Place.Asleep = refl
-    go Place.Waiting = refl
-    go (Place.Met i m) = refl
+    ap (λ (b : Bool). listFits n p (x .count) (x .guards) && (listFits n p (x .altcount) (x .altlist) && (signalFits (x .count) (x .signal) && b)))
+    (both-carried (λ a b. a ≡ b) true true _ _ _ _ _ _ (x .place) refl (λ i e. refl) (λ i j e. rw e refl) (λ i m e. refl))
 
 -- guards that fit, and a blank one, name a process below n
 named-below : (n p : ℕ) (gs : List Guard) (i : ℕ) → 0 < n → allGuards (partnerFits n p) gs ≡ true → getD gs i blank .partner < n

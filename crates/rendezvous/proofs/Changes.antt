@@ -1,6 +1,6 @@
 -- A step of process p changes a well-formed table exactly where the rule of p changes anything.
 use Prim.Native.Nat.{ℕ, _≤_, _<_}
-use mathlib.Core.Path.{_≡_, refl, sym, ap, subst, _∙_}
+use mathlib.Core.Path.{_≡_, refl, sym, ap, _∙_}
 use mathlib.Core.Bool.{Bool, true, false, false≢true}
 use native.Mathlib.Omega.{arith}
 use lib.ListN.{length, set, length-set, List·getD-eq-default}
@@ -8,7 +8,7 @@ use lib.Seq.{getD-set-same}
 use lib.Dec.{ltb}
 use borrow.Author.Tests.{ltb-true, ltb-false, lt-ltb}
 use Rattle.process.specs.Process.{nobody}
-use Rattle.process.specs.Rules.{Effect, Neither, Own, Both, rule, partnerOf, changes}
+use Rattle.process.specs.Rules.{Effect, Neither, Own, Both, rule, changes}
 use Rattle.process.proofs.Differs.{Differs, rule-differs}
 use Rattle.rendezvous.specs.Types.{Process, ProcessTable}
 use Rattle.rendezvous.specs.Table.{process}

@@ -11,6 +11,7 @@ use Rattle.process.specs.declared.Signal.{Signal}
 use Rattle.process.specs.Process.{nobody}
 use Rattle.process.specs.Rules.{Effect, Neither, Own, Both, changed, rule, partnerOf}
 use Rattle.process.specs.InCode.{changeOf, outcomeOf}
+use Rattle.process.proofs.PlaceCases.{both-carried}
 use Rattle.process.proofs.OnlyTold.{OnlyTold, rule-only-told}
 use Rattle.rendezvous.specs.declared.Act.{Act}
 use Rattle.rendezvous.specs.Types.{Place, Process, Head, ProcessTable, Refusal, Verdict, Answer, Reply}
@@ -43,17 +44,9 @@ module _ (t : ProcessTable) (p : ℕ) where
 
   collected-done : (q : ℕ) (place : Place) → done t p q (collectedAct (t .head) (process t p) (outcomeOf place)) ≡ collected t p (process t p) place
   unfolding done
-  collected-done q (Place.Met i m) = refl
-  collected-done q Place.Idle = nothing-done t p q (Answer.Refused Refusal.NotMet)
-  collected-done q Place.Entering = nothing-done t p q (Answer.Refused Refusal.NotMet)
-  collected-done q (Place.Scanning i) = nothing-done t p q (Answer.Refused Refusal.NotMet)
-  collected-done q (Place.Trying i) = nothing-done t p q (Answer.Refused Refusal.NotMet)
-  collected-done q (Place.Committed i j) = nothing-done t p q (Answer.Refused Refusal.NotMet)
-  collected-done q Place.Posting = nothing-done t p q (Answer.Refused Refusal.NotMet)
-  collected-done q Place.Opening = nothing-done t p q (Answer.Refused Refusal.NotMet)
-  collected-done q Place.Showing = nothing-done t p q (Answer.Refused Refusal.NotMet)
-  collected-done q Place.Asleep = nothing-done t p q (Answer.Refused Refusal.NotMet)
-  collected-done q Place.Waiting = nothing-done t p q (Answer.Refused Refusal.NotMet)
+  collected-done q place =
+      let refused = nothing-done t p q (Answer.Refused Refusal.NotMet) in
+      both-carried (λ s r. done t p q (collectedAct (t .head) (process t p) s) ≡ r) _ _ _ _ _ _ _ _ place refused (λ i e. refused) (λ i j e. refused) (λ i m e. refl)
 
 pub acts-are-calls : ActsAreCalls
 unfolding done offerAct stepAct collectAct processVerdict offerVerdict offerList offered step stepped effectOn collect
@@ -63,7 +56,7 @@ acts-are-calls = record {
   collects = λ t p q. if-done t p q (processVerdict t p) _ _ (collected-done t p q (process t p .place));
 }
 
--- as the code carries an act out: the partner's record, where it is told something, then the own record and the next ticket
+-- as the code carries an act out: the partner's record, where it is told something, then the own record and the head
 pub done-both : (t u : ProcessTable) (i j : ℕ) (act : Act) (y : Process) → act .told ≡ true → y ≡ changed (process t j) (process t j .place) (act .signal) (act .accepting) → u ≡ put t j y
     → record { answer = act .answer; table = record { head = act .head; processes = set (u .processes) i (act .own) } } ≡ done t i j act
 unfolding done

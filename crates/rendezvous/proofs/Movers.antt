@@ -8,7 +8,7 @@ use borrow.Author.Tests.{ltb-true, ltb-false}
 use Rattle.process.specs.Rules.{changes}
 use Rattle.rendezvous.specs.Types.{ProcessTable}
 use Rattle.rendezvous.specs.WellFormed.{wellFormed}
-use Rattle.rendezvous.specs.Calls.{effectOn, step, Quiescent}
+use Rattle.rendezvous.specs.Calls.{effectOn}
 use Rattle.rendezvous.specs.Movers.{runnableSet, bit, Tells, RestsWhenEmpty, MoversChange}
 use Rattle.rendezvous.proofs.Sets.{bit-of, bit-outside, bit-of-none, none-below}
 use Rattle.rendezvous.proofs.Changes.{step-outside, step-same, step-other, rest-still}

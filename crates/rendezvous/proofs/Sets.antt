@@ -8,7 +8,7 @@ use native.Mathlib.Nat.{add-mul, mul-le-mul-left, add-mul-div-left, add-div-righ
 use native.Mathlib.Numerals.{add-one}
 use native.Mathlib.Omega.{arith}
 use Rattle.process.specs.Rules.{changes}
-use Rattle.rendezvous.specs.Types.{ProcessTable, Refusal, Answer, Reply}
+use Rattle.rendezvous.specs.Types.{ProcessTable, Refusal, Answer}
 use Rattle.rendezvous.specs.WellFormed.{wellFormed}
 use Rattle.rendezvous.specs.Refusals.{tableVerdict}
 use Rattle.rendezvous.specs.Calls.{refused, effectOn}

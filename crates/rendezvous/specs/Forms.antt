@@ -2,13 +2,9 @@
 use Rattle.process.specs.Fits.{processFits}
 use Rattle.process.specs.Rules.{partnerOf}
 use Rattle.rendezvous.specs.declared.Form.{Form}
-use Rattle.rendezvous.specs.Types.{ℕ, zero, suc, _≡_, Bool, _&&_, cond, ltb, Process, Head, ProcessTable}
-use Rattle.rendezvous.specs.Table.{mostProcesses, process}
+use Rattle.rendezvous.specs.Types.{ℕ, zero, suc, _≡_, Bool, _&&_, Process, Head, ProcessTable}
+use Rattle.rendezvous.specs.Table.{process}
 use Rattle.rendezvous.specs.WellFormed.{countFits, wellFormed}
-
--- how many guards process q has posted, from the count of the record that was read for it: none outside the table
-abbrev pub postedBy : ℕ → ℕ → ℕ
-postedBy q posted = cond (ltb q mostProcesses) posted 0
 
 -- the head
 abbrev pub formStart : Head → Form
@@ -18,7 +14,7 @@ formStart h = record { fits = countFits (h .n) }
 abbrev pub formMore : Form → Head → ℕ → Process → ℕ → Form
 formMore form h k x posted = record { fits = form .fits && processFits (h .n) k x posted }
 
--- every process is tested
+-- whether the table is well-formed, once every process is tested
 abbrev pub formEnd : Form → Head → Bool
 formEnd form h = form .fits
 

@@ -21,10 +21,9 @@ impl ProcessTable {
         while k < head.n {
             let at = (k % MOST_PROCESSES) as usize;
             let z = t.processes[at];
-            let named = z.committed_to();
-            let there = (named % MOST_PROCESSES) as usize;
+            let there = (z.committed_to() % MOST_PROCESSES) as usize;
             let posted = t.processes[there].altcount;
-            form = form_more(form, head, k, z, named, posted);
+            form = form_more(form, head, k, z, posted);
             k = k + 1;
         }
         let formed = form_end(form, head);

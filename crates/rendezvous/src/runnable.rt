@@ -21,8 +21,8 @@ fn lowest(is: bool) -> ProcessSet
 }
 
 impl ProcessTable {
-    // The set of processes that a step would change. It is put together from its last bit down, so that no number on the way is larger
-    // than the set.
+    // The set of processes that a step would change. It is put together from its last bit down, so that no number on the way
+    // needs more bits than a set has.
     pub fn runnable(self) -> Reply
         ensures { λ r. ⌜ r ≡ runnable self ⌝ }
     {
@@ -33,10 +33,9 @@ impl ProcessTable {
         while k < head.n {
             let at = (k % MOST_PROCESSES) as usize;
             let z = t.processes[at];
-            let named = z.committed_to();
-            let there = (named % MOST_PROCESSES) as usize;
+            let there = (z.committed_to() % MOST_PROCESSES) as usize;
             let posted = t.processes[there].altcount;
-            form = form_more(form, head, k, z, named, posted);
+            form = form_more(form, head, k, z, posted);
             k = k + 1;
         }
         let formed = form_end(form, head);

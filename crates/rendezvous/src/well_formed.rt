@@ -7,7 +7,7 @@ use process::Process;
 use process::process_fits;
 ghost use mathlib.Core.Path.{_≡_};
 ghost use Rattle.rendezvous.specs.WellFormed.{countFits, wellFormed};
-ghost use Rattle.rendezvous.specs.Forms.{postedBy, formStart, formMore, formEnd};
+ghost use Rattle.rendezvous.specs.Forms.{formStart, formMore, formEnd};
 
 pub fn count_fits(n: u8) -> bool
     ensures { λ r. ⌜ r ≡ countFits n ⌝ }
@@ -15,14 +15,7 @@ pub fn count_fits(n: u8) -> bool
     (2 <= n) & (n <= MOST_PROCESSES)
 }
 
-// How many guards process q has posted, where `posted` is the count of the record that was read for it: none outside the table.
-fn posted_by(q: u8, posted: u8) -> u8
-    ensures { λ r. ⌜ r ≡ postedBy q posted ⌝ }
-{
-    if q < MOST_PROCESSES { posted } else { 0 }
-}
-
-// The test begins with the head. It has three parts, so that the loop over the records, which stands in each call, holds no condition of 7.
+// The test begins with the head. It has three parts, so that the loop over the records, which stands in each call that reads a table, holds no condition of 7.
 pub fn form_start(head: Head) -> Form
     ensures { λ r. ⌜ r ≡ formStart head ⌝ }
 {
@@ -31,17 +24,17 @@ pub fn form_start(head: Head) -> Form
     }
 }
 
-// It goes on with process k, whose guard at C names q; `posted` is the count of the record that was read for q.
-pub fn form_more(form: Form, head: Head, k: u8, x: Process, q: u8, posted: u8) -> Form
-    ensures { λ r. ⌜ r ≡ formMore form head k x (postedBy q posted) ⌝ }
+// It goes on with process k; the process that its guard names at C has posted so many. (Where it names none below n, it does not fit, whatever is read.)
+pub fn form_more(form: Form, head: Head, k: u8, x: Process, posted: u8) -> Form
+    ensures { λ r. ⌜ r ≡ formMore form head k x posted ⌝ }
 {
-    let fits = process_fits(head.n, k, x, posted_by(q, posted));
+    let fits = process_fits(head.n, k, x, posted);
     Form {
         fits: form.fits & fits,
     }
 }
 
-// It ends once every process is tested; the head is there to be held against what was found.
+// It ends once every process is tested.
 pub fn form_end(form: Form, head: Head) -> bool
     ensures { λ r. ⌜ r ≡ formEnd form head ⌝ }
 {
@@ -60,10 +53,9 @@ impl ProcessTable {
         while k < head.n {
             let at = (k % MOST_PROCESSES) as usize;
             let z = self.processes[at];
-            let q = z.committed_to();
-            let there = (q % MOST_PROCESSES) as usize;
+            let there = (z.committed_to() % MOST_PROCESSES) as usize;
             let posted = self.processes[there].altcount;
-            form = form_more(form, head, k, z, q, posted);
+            form = form_more(form, head, k, z, posted);
             k = k + 1;
         }
         form_end(form, head)

@@ -71,10 +71,9 @@ pub fn feed(session: Session, piece: &[u8], out: &mut [u8]) -> Fed
             while k < head.n {
                 let at = (k % MOST_PROCESSES) as usize;
                 let z = table.processes[at];
-                let named = z.committed_to();
-                let there = (named % MOST_PROCESSES) as usize;
+                let there = (z.committed_to() % MOST_PROCESSES) as usize;
                 let posted = table.processes[there].altcount;
-                form = form_more(form, head, k, z, named, posted);
+                form = form_more(form, head, k, z, posted);
                 k = k + 1;
             }
             let at = (command.number % MOST_PROCESSES) as usize;

@@ -1,38 +1,34 @@
 use Prim.Native.Nat.{_≤_, _-_}
 use mathlib.Core.Logic.{⊎-elim}
-use mathlib.Core.Path.{_≡_, _∙_}
+use mathlib.Core.Path.{_∙_}
 use native.Mathlib.Omega.{arith}
 use borrow.Author.Needs.{needs}
-use lib.ListN.{length}
-use Rattle.rendezvous.specs.Table.{mostProcesses}
 use Rattle.rendezvous.proofs.Done.{done-both, done-own, step-done}
 use Rattle.rendezvous.proofs.Forms.{FormAt, form-start, form-more, form-end}
-use Rattle.rendezvous.proofs.Lengths.{length-mapped}
 use Rattle.rendezvous.proofs.ProcessTable.step.Statement.{statement}
 use Rattle.rendezvous.proofs.ProcessTable.step.Tie as tie
 
 abbrev Inv-loop : tie.InvT-loop
-Inv-loop p t head form₀ k₀ form k = (k ≤ head .n) × (length (t .processes) ≡ mostProcesses) × FormAt t k form
+Inv-loop p t head form₀ k₀ form k = (k ≤ head .n) × FormAt t k form
 
 abbrev μ-loop : tie.MeasureT-loop
 μ-loop p t head form₀ k₀ form k = head .n - k
 
 loop-holds : tie.Need-loop-holds Inv-loop μ-loop
-loop-holds c = (omega arith, search length-mapped, form-start _ _ (c .form-start .ensures))
+loop-holds c = (omega arith, form-start _ _ (c .form-start .ensures))
 
 loop-again : tie.Need-loop-again Inv-loop μ-loop
 loop-again c =
     let l = c .before .before .before .before .before in (
       omega arith,
-      l .loop .inv .1,
-      form-more _ (l .loop .k) _ _ _ (l .loop .inv .1) (omega arith) (l .loop .inv .2) (c .before .committed-to .ensures) (c .form-more .ensures),
+      form-more _ (l .loop .k) _ _ _ (omega arith) (l .loop .inv .1) (c .before .committed-to .ensures) (c .form-more .ensures),
     )
 
 returns : tie.Need-returns Inv-loop μ-loop
 returns c =
     let s = c .before .before .before in
     let l = s .before .before .before .before .before .before .before in
-    let formed = form-end _ (l .loop .k) _ _ (omega arith) (l .loop .inv .2) (s .before .before .before .before .form-end .ensures) in
+    let formed = form-end _ (l .loop .k) _ _ (omega arith) (l .loop .inv .1) (s .before .before .before .before .form-end .ensures) in
     let does = step-done _ _ _ formed _ _ (s .before .before .partner .ensures) (s .step-act .ensures) in
     ⊎-elim
     (λ a. done-both _ _ _ _ _ _ (a .0 .taken) (a .2 .ensures) (a .3) ∙ does)

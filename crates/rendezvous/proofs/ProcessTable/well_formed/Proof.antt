@@ -1,33 +1,28 @@
 use Prim.Native.Nat.{_≤_, _-_}
-use mathlib.Core.Path.{_≡_}
 use native.Mathlib.Omega.{arith}
 use borrow.Author.Needs.{needs}
-use lib.ListN.{length}
-use Rattle.rendezvous.specs.Table.{mostProcesses}
 use Rattle.rendezvous.proofs.Forms.{FormAt, form-start, form-more, form-end}
-use Rattle.rendezvous.proofs.Lengths.{length-mapped}
 use Rattle.rendezvous.proofs.ProcessTable.well_formed.Statement.{statement}
 use Rattle.rendezvous.proofs.ProcessTable.well_formed.Tie as tie
 
 abbrev Inv-loop : tie.InvT-loop
-Inv-loop self head form₀ k₀ form k = (k ≤ head .n) × (length (self .processes) ≡ mostProcesses) × FormAt self k form
+Inv-loop self head form₀ k₀ form k = (k ≤ head .n) × FormAt self k form
 
 abbrev μ-loop : tie.MeasureT-loop
 μ-loop self head form₀ k₀ form k = head .n - k
 
 loop-holds : tie.Need-loop-holds Inv-loop μ-loop
-loop-holds c = (omega arith, search length-mapped, form-start _ _ (c .form-start .ensures))
+loop-holds c = (omega arith, form-start _ _ (c .form-start .ensures))
 
 loop-again : tie.Need-loop-again Inv-loop μ-loop
 loop-again c =
     let l = c .before .before .before .before .before in (
       omega arith,
-      l .loop .inv .1,
-      form-more _ (l .loop .k) _ _ _ (l .loop .inv .1) (omega arith) (l .loop .inv .2) (c .before .committed-to .ensures) (c .form-more .ensures),
+      form-more _ (l .loop .k) _ _ _ (omega arith) (l .loop .inv .1) (c .before .committed-to .ensures) (c .form-more .ensures),
     )
 
 returns : tie.Need-returns Inv-loop μ-loop
-returns c = let l = c .before .before .before in form-end _ (l .loop .k) _ _ (omega arith) (l .loop .inv .2) (c .form-end .ensures)
+returns c = let l = c .before .before .before in form-end _ (l .loop .k) _ _ (omega arith) (l .loop .inv .1) (c .form-end .ensures)
 
 pub well-formed-spec : {M : Type 1} → statement M
 well-formed-spec =

@@ -3,7 +3,7 @@ use Rattle.rendezvous.proofs.well_formed.form_more.Statement.{statement
 use Rattle.rendezvous.proofs.well_formed.form_more.Tie as tie
 
 returns : tie.Need-returns
-returns c = rw (c .before .process-fits .ensures, c .before .before .posted-by .ensures)
+returns c = rw (c .before .process-fits .ensures)
 
 pub form-more-spec : {M : Type 1} → statement M
-form-more-spec = tie.close (tie.spec (λ c κs. search needs) (λ c κs. search needs) returns)
+form-more-spec = tie.close (tie.spec (λ c κs. search needs) returns)

@@ -23,7 +23,7 @@ use Rattle.script.proofs.feeding.feed.Statement.{statement}
 use Rattle.script.proofs.feeding.feed.Tie as tie
 
 abbrev Inv-loop2 : tie.InvT-loop2
-Inv-loop2 piece out made table bytes held taken filled i b command kind head form₀ k₀ form k = (k ≤ head .n) × (length (table .processes) ≡ mostProcesses) × FormAt table k form
+Inv-loop2 piece out made table bytes held taken filled i b command kind head form₀ k₀ form k = (k ≤ head .n) × FormAt table k form
 
 abbrev μ-loop2 : tie.MeasureT-loop2
 μ-loop2 piece out made table bytes held taken filled i b command kind head form₀ k₀ form k = head .n - k
@@ -55,14 +55,13 @@ atAct c = c .before .before .before
 
 -- the loop over the line's records tests the table's form
 loop2-holds : tie.Need-loop2-holds Inv-loop2 μ-loop2 Inv-loop μ-loop
-loop2-holds c = (omega arith, inTurn (c .before .before) .before .loop .inv .3 .records, form-start _ _ (c .form-start .ensures))
+loop2-holds c = (omega arith, form-start _ _ (c .form-start .ensures))
 
 loop2-again : tie.Need-loop2-again Inv-loop2 μ-loop2 Inv-loop μ-loop
 loop2-again c =
     let l = c .before .before .before .before .before in (
       omega arith,
-      l .loop2 .inv .1,
-      form-more _ (l .loop2 .k) _ _ _ (l .loop2 .inv .1) (omega arith) (l .loop2 .inv .2) (c .before .committed-to .ensures) (c .form-more .ensures),
+      form-more _ (l .loop2 .k) _ _ _ (omega arith) (l .loop2 .inv .1) (c .before .committed-to .ensures) (c .form-more .ensures),
     )
 
 -- there is room for a line
@@ -80,7 +79,7 @@ carriedOut c =
 called : (c : tie.Joined3 Inv-loop2 μ-loop2 Inv-loop μ-loop) → let p = atCommand c .heard .result in carriedOut c ≡ calledBy (inTurn (atCommand c) .before .loop .table) (p .kind) (p .number) (p .list)
 called c =
     let l = c .before .before .before .before .before .before .before .before .before in
-    let formed = form-end _ (l .loop2 .k) _ _ (omega arith) (l .loop2 .inv .2) (c .before .before .form-end .ensures) in
+    let formed = form-end _ (l .loop2 .k) _ _ (omega arith) (l .loop2 .inv .1) (c .before .before .form-end .ensures) in
     let does = line-done _ _ _ _ _ _ _ formed (c .before .before .before .before .partner .ensures) (c .before .line-act .ensures) in
     ⊎-elim (λ a. done-both _ _ _ _ _ _ (a .0 .taken) (a .2 .ensures) (a .3) ∙ does) (λ a. done-own _ _ _ _ _ (a .0 .left) (a .1) ∙ does) (c .if3 .came)
 
