@@ -1,7 +1,7 @@
 //! A desk as bytes.
 
 use super::table::{Table, BLANK};
-use crate::rendezvous::{GUARDS, MESSAGE_BYTES, PROCESSES, TABLE_BYTES};
+use crate::rendezvous::{GUARDS, PROCESSES, TABLE_BYTES};
 use model::{Desk, Guard, IndexedMessage, Message, Party, Place};
 
 /// Writes a desk; a record that it does not have is a fresh one.
@@ -46,13 +46,12 @@ pub fn put_place(out: &mut Vec<u8>, place: Place) {
 }
 
 pub fn put_signal(out: &mut Vec<u8>, signal: Option<IndexedMessage>) {
-    match signal {
-        None => out.extend([0; 2 + MESSAGE_BYTES]),
-        Some(IndexedMessage { index, message }) => {
-            out.extend([1, index as u8]);
-            put_message(out, message);
-        }
-    }
+    let (tag, index, message) = match signal {
+        None => (0, 0, Message::Nothing),
+        Some(IndexedMessage { index, message }) => (1, index, message),
+    };
+    out.extend([tag, index as u8]);
+    put_message(out, message);
 }
 
 fn put_slots(out: &mut Vec<u8>, list: &[Guard]) {
@@ -82,10 +81,9 @@ pub fn put_message(out: &mut Vec<u8>, message: Message) {
 #[cfg(test)]
 mod tests {
     use super::*;
-    use crate::rendezvous::{GUARD_MESSAGE, HEAD_BYTES, HEAD_COUNT, HEAD_NEXT};
-    use crate::rendezvous::{
-        RECORD_BYTES, RECORD_OWN, RECORD_POSTED, RECORD_SIGNAL, RECORD_TICKET,
-    };
+    use crate::rendezvous::{GUARD_MESSAGE, HEAD_BYTES, HEAD_COUNT, HEAD_NEXT, MESSAGE_BYTES};
+    use crate::rendezvous::{RECORD_BYTES, RECORD_OUTCOME, RECORD_OWN, RECORD_POSTED};
+    use crate::rendezvous::{RECORD_SIGNAL, RECORD_TICKET};
     use model::{Action, Ticket};
 
     #[test]
@@ -120,7 +118,7 @@ mod tests {
         let (head, records) = table.bytes().split_at(HEAD_BYTES);
         let bytes = &records[RECORD_BYTES..];
         assert_eq!(head, [2, 1, 2, 3, 4]);
-        assert_eq!(bytes[..3], [4, 3, 4]);
+        assert_eq!(bytes[..RECORD_OUTCOME], [4, 3, 4]);
         let signal = [1, 5, 3, 0, 0, 128, 63, 0, 0, 0, 192];
         assert_eq!(bytes[RECORD_SIGNAL..RECORD_TICKET], signal);
         assert_eq!(bytes[RECORD_TICKET..RECORD_OWN], [6, 0, 0, 0, 1, 0, 1]);
