@@ -98,8 +98,8 @@ fn place(letter: char, index: usize) -> Answer {
 #[cfg(test)]
 mod tests {
     use super::*;
-    use crate::rendezvous::{receives, HEAD_BYTES, LIMIT, LINE_BYTES, RECORD_PLACE};
-    use crate::rendezvous::{SESSION_BYTES, TABLE_BYTES, WORD_BYTES};
+    use crate::rendezvous::{receives, BEGUN_BYTES, HEAD_BYTES, LIMIT, LINE_BYTES, RECORD_PLACE};
+    use crate::rendezvous::{SESSION_BEGUN, SESSION_BYTES, SESSION_TABLE, TABLE_BYTES, WORD_BYTES};
     use model::Message;
 
     /// The bytes of an answer; `start` is its kind, first and second.
@@ -269,6 +269,19 @@ mod tests {
                 assert_eq!(printed(input, piece, room), model::script::run(input));
             }
         }
+    }
+
+    #[test]
+    fn a_session_holds_the_begun_line_and_the_table() {
+        let (mut session, mut after) = ([0xee; SESSION_BYTES], [0xee; SESSION_BYTES]);
+        let input = [b"n 2\n".as_slice(), &[b'm'; BEGUN_BYTES + 1]].concat();
+        let mut out = vec![0xee; input.len() * LINE_BYTES];
+        assert!(rendezvous::script_start(&mut session));
+        let fed = rendezvous::script_feed(&session, &input, &mut after, &mut out);
+        assert_eq!(fed, Some((input.len(), 4)));
+        assert_eq!(after[SESSION_BEGUN..SESSION_TABLE], [b'm'; BEGUN_BYTES]);
+        let table = Proved.create(2).expect("two is a good number");
+        assert_eq!(&after[SESSION_TABLE..], table.bytes());
     }
 
     #[test]

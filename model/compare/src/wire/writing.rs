@@ -81,9 +81,12 @@ pub fn put_message(out: &mut Vec<u8>, message: Message) {
 #[cfg(test)]
 mod tests {
     use super::*;
-    use crate::rendezvous::{GUARD_MESSAGE, HEAD_BYTES, HEAD_COUNT, HEAD_NEXT, MESSAGE_BYTES};
-    use crate::rendezvous::{RECORD_BYTES, RECORD_OUTCOME, RECORD_OWN, RECORD_POSTED};
-    use crate::rendezvous::{RECORD_SIGNAL, RECORD_TICKET};
+    use crate::rendezvous::{sends, GUARD_BYTES, GUARD_MESSAGE, HEAD_BYTES, HEAD_COUNT};
+    use crate::rendezvous::{HEAD_NEXT, MESSAGE_BYTES, MESSAGE_KIND, RECORD_ACCEPTING};
+    use crate::rendezvous::{LIMIT, NOTHING, READING, WHOLE};
+    use crate::rendezvous::{RECORD_BYTES, RECORD_COUNTS, RECORD_INDEX, RECORD_KEPT};
+    use crate::rendezvous::{RECORD_OUTCOME, RECORD_OWN, RECORD_PLACE, RECORD_POSTED};
+    use crate::rendezvous::{RECORD_SIGNAL, RECORD_SIGNAL_MESSAGE, RECORD_TICKET};
     use model::{Action, Ticket};
 
     #[test]
@@ -102,7 +105,7 @@ mod tests {
             high: -2.0,
         };
         let record = &mut desk.parties[1];
-        record.place = Place::Committed { own: 3, kept: 4 };
+        record.place = Place::Committed { own: 3, kept: 7 };
         record.signal = Some(IndexedMessage {
             index: 5,
             message: limit,
@@ -110,7 +113,7 @@ mod tests {
         record.ticket = Ticket(6);
         record.wake_count = 0;
         record.posted = vec![Guard {
-            enabled: true,
+            enabled: false,
             partner: 9,
             action: Action::Send(Message::Whole(-2)),
         }];
@@ -118,13 +121,34 @@ mod tests {
         let (head, records) = table.bytes().split_at(HEAD_BYTES);
         let bytes = &records[RECORD_BYTES..];
         assert_eq!(head, [2, 1, 2, 3, 4]);
-        assert_eq!(bytes[..RECORD_OUTCOME], [4, 3, 4]);
-        let signal = [1, 5, 3, 0, 0, 128, 63, 0, 0, 0, 192];
-        assert_eq!(bytes[RECORD_SIGNAL..RECORD_TICKET], signal);
-        assert_eq!(bytes[RECORD_TICKET..RECORD_OWN], [6, 0, 0, 0, 1, 0, 1]);
-        let posted = &bytes[RECORD_POSTED..];
-        assert_eq!(posted[..GUARD_MESSAGE], [1, 9, 1]);
-        let message = [1, 254, 255, 255, 255, 0, 0, 0, 0];
-        assert_eq!(posted[GUARD_MESSAGE..][..MESSAGE_BYTES], message);
+        assert_eq!(bytes[RECORD_PLACE], 4);
+        assert_eq!(bytes[RECORD_INDEX], 3);
+        assert_eq!(bytes[RECORD_KEPT], 7);
+        assert_eq!(bytes[RECORD_OUTCOME..RECORD_SIGNAL], [0; MESSAGE_BYTES]);
+        assert_eq!(bytes[RECORD_SIGNAL..RECORD_SIGNAL_MESSAGE], [1, 5]);
+        let signalled = [3, 0, 0, 128, 63, 0, 0, 0, 192];
+        assert_eq!(bytes[RECORD_SIGNAL_MESSAGE..RECORD_TICKET], signalled);
+        assert_eq!(bytes[RECORD_TICKET..RECORD_ACCEPTING], [6, 0, 0, 0]);
+        assert_eq!(bytes[RECORD_ACCEPTING], 1);
+        assert_eq!(bytes[RECORD_COUNTS..RECORD_OWN], [0, 1]);
+        let posted = &bytes[RECORD_POSTED..][..GUARD_BYTES];
+        assert_eq!(posted[..GUARD_MESSAGE], [0, 9, 1]);
+        assert_eq!(posted[GUARD_MESSAGE..], [1, 254, 255, 255, 255, 0, 0, 0, 0]);
+        assert_eq!(posted, sends(false, 9, WHOLE, 0xffff_fffe, 0));
+    }
+
+    #[test]
+    fn messages_have_their_kinds() {
+        let (low, high) = (1.0, -2.0);
+        for (message, kind) in [
+            (Message::Nothing, NOTHING),
+            (Message::Whole(7), WHOLE),
+            (Message::Reading(low), READING),
+            (Message::Limit { low, high }, LIMIT),
+        ] {
+            let mut bytes = Vec::new();
+            put_message(&mut bytes, message);
+            assert_eq!(bytes[MESSAGE_KIND], kind);
+        }
     }
 }
