@@ -81,7 +81,8 @@ pub fn put_message(out: &mut Vec<u8>, message: Message) {
 #[cfg(test)]
 mod tests {
     use super::*;
-    use crate::rendezvous::{sends, GUARD_BYTES, GUARD_MESSAGE, HEAD_BYTES, HEAD_COUNT};
+    use crate::rendezvous::{receives, sends};
+    use crate::rendezvous::{GUARD_BYTES, GUARD_MESSAGE, HEAD_BYTES, HEAD_COUNT};
     use crate::rendezvous::{HEAD_NEXT, MESSAGE_BYTES, MESSAGE_KIND, RECORD_ACCEPTING};
     use crate::rendezvous::{LIMIT, NOTHING, READING, WHOLE};
     use crate::rendezvous::{RECORD_BYTES, RECORD_COUNTS, RECORD_INDEX, RECORD_KEPT};
@@ -112,11 +113,17 @@ mod tests {
         });
         record.ticket = Ticket(6);
         record.wake_count = 0;
-        record.posted = vec![Guard {
+        let sending = Guard {
             enabled: false,
             partner: 9,
             action: Action::Send(Message::Whole(-2)),
-        }];
+        };
+        let receiving = Guard {
+            enabled: true,
+            partner: 8,
+            action: Action::Receive,
+        };
+        record.posted = vec![sending, receiving];
         let table = encode(&desk);
         let (head, records) = table.bytes().split_at(HEAD_BYTES);
         let bytes = &records[RECORD_BYTES..];
@@ -130,11 +137,12 @@ mod tests {
         assert_eq!(bytes[RECORD_SIGNAL_MESSAGE..RECORD_TICKET], signalled);
         assert_eq!(bytes[RECORD_TICKET..RECORD_ACCEPTING], [6, 0, 0, 0]);
         assert_eq!(bytes[RECORD_ACCEPTING], 1);
-        assert_eq!(bytes[RECORD_COUNTS..RECORD_OWN], [0, 1]);
-        let posted = &bytes[RECORD_POSTED..][..GUARD_BYTES];
-        assert_eq!(posted[..GUARD_MESSAGE], [0, 9, 1]);
-        assert_eq!(posted[GUARD_MESSAGE..], [1, 254, 255, 255, 255, 0, 0, 0, 0]);
-        assert_eq!(posted, sends(false, 9, WHOLE, 0xffff_fffe, 0));
+        assert_eq!(bytes[RECORD_COUNTS..RECORD_OWN], [0, 2]);
+        let (first, rest) = bytes[RECORD_POSTED..].split_at(GUARD_BYTES);
+        assert_eq!(first[..GUARD_MESSAGE], [0, 9, 1]);
+        assert_eq!(first[GUARD_MESSAGE..], [1, 254, 255, 255, 255, 0, 0, 0, 0]);
+        assert_eq!(first, sends(false, 9, WHOLE, 0xffff_fffe, 0));
+        assert_eq!(rest[..GUARD_BYTES], receives(true, 8));
     }
 
     #[test]
