@@ -9,8 +9,8 @@
 #include <stdlib.h>
 #include <string.h>
 
-/* A line that is taken has at most 200 bytes, so it is one piece. */
-enum { PIECE = 256 };
+/* A line that is taken has at most so many bytes with its end, so it is one piece. */
+enum { PIECE = RENDEZVOUS_BEGUN_BYTES };
 /* Both offer; the waiter posts, opens, waits; one commits and signals, one absorbs; both collect. */
 enum { STATIONS = 10 };
 /* So many rendezvous wait for an older one to be told. At most RENDEZVOUS_PROCESSES of them have a collection due. */
@@ -302,9 +302,10 @@ static const struct {
              {'T', 'C', commits}, {'C', 'M', signals}, {'W', 'M', absorbs}, {'M', 'I', collects}};
 
 static char place(const uint8_t *session, unsigned p) {
+    static const char letters[] = "IEATCPOHSWM";
     uint8_t at = record(session, p)[RENDEZVOUS_RECORD_PLACE];
-    if (at > 10) fail("a process is at no place");
-    return "IEATCPOHSWM"[at];
+    if (at >= strlen(letters)) fail("a process is at no place");
+    return letters[at];
 }
 
 /* An offer that has not met, or an outcome that is not collected: whose, and where that process stands. */

@@ -1,4 +1,4 @@
-// Fields of a line: where one ends, and the number that one writes.
+// Fields of a line: where one ends.
 ghost use mathlib.Core.Path.{_≡_};
 ghost use Rattle.command.specs.Private.{fieldLength};
 

@@ -88,6 +88,8 @@ recordsLength = recordLength * mostProcesses
 abbrev pub tableLength : ℕ
 tableLength = headLength + recordsLength
 
--- the numbers that docs/BYTES.md gives
+-- how long a message, a guard, a record, a head and a table are, and where in a record the signal, the ticket, accepting, the own and the posted guards stand: the numbers of docs/BYTES.md
 abbrev pub Lengths : Type 0
-Lengths = (messageLength ≡ 9) × (guardLength ≡ 12) × (recordLength ≡ 222) × (headLength ≡ 5) × (tableLength ≡ 7109)
+Lengths =
+    (messageLength ≡ 9) × (guardLength ≡ 12) × (recordLength ≡ 222) × (headLength ≡ 5) × (tableLength ≡ 7109) ×
+    (signalAt ≡ 12) × (ticketAt ≡ 23) × (acceptingAt ≡ 27) × (guardsAt ≡ 30) × (altlistAt ≡ 126)

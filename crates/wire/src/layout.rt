@@ -1,5 +1,5 @@
-// How many bytes each part of a table takes, and where it stands in what holds it. A part without a name here is one byte, and stands
-// behind the one before it. The definitions have the same numbers (specs/Layout.antt).
+// How many bytes each part of a table takes, and where it stands in what holds it. The first part stands at 0; a part without a name
+// here is one byte, and stands behind the one before it. The definitions have the same numbers (specs/Layout.antt).
 use rendezvous::MOST_PROCESSES;
 
 // A number of 32 bits, the lowest byte first.

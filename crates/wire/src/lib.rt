@@ -69,7 +69,8 @@ pub fn encode(table: ProcessTable, out: &mut [u8]) -> bool
     true
 }
 
-// Carries how long the bytes of a table and of its parts are.
+// Carries how many bytes a message, a guard, a record, a head and a table have, and where in a record the signal, the ticket,
+// accepting, the own and the posted guards stand.
 pub fn byte_lengths()
     ensures { λ _. ⌜ Lengths ⌝ }
 {}

@@ -40,7 +40,7 @@ pub fn message_bytes(m: Message) -> [u8; layout::MESSAGE_BYTES]
     }
 }
 
-// Three bytes, then a message.
+// Three bytes, then a message: so are a guard (enabled, the partner, the action's variant) and a place (its variant, two indices).
 fn three_and_message(a: u8, b: u8, c: u8, m: Message) -> [u8; 3 + layout::MESSAGE_BYTES]
     ensures { λ r. ⌜ r ≡ a ∷ b ∷ c ∷ messageBytes m ⌝ }
 {
@@ -81,14 +81,15 @@ fn place_bytes(place: Place) -> [u8; layout::PLACE_BYTES]
     }
 }
 
-fn two_and_message(a: u8, b: u8, m: Message) -> [u8; 2 + layout::MESSAGE_BYTES]
+// A signal: its variant, the index, its message.
+fn two_and_message(a: u8, b: u8, m: Message) -> [u8; layout::SIGNAL_BYTES]
     ensures { λ r. ⌜ r ≡ a ∷ b ∷ messageBytes m ⌝ }
 {
-    let mut out = [0u8; 2 + layout::MESSAGE_BYTES];
+    let mut out = [0u8; layout::SIGNAL_BYTES];
     let two = [a, b];
     put_bytes(&mut out, 0, &two);
     let message = message_bytes(m);
-    put_bytes(&mut out, 2, &message);
+    put_bytes(&mut out, layout::SIGNALLED_AT, &message);
     out
 }
 

@@ -1,7 +1,8 @@
 //! The model's desk by value: each call takes it and hands it back.
 
 use crate::plan::{moved, Call, Plan, Setting, MEETING, NEXT_TICKET, REFUSED};
-use model::by_value::{Desk, Guard, GuardList, IndexedMessage, Party, Place, MOST_GUARDS};
+use model::by_value::{Desk, Guard, GuardList, IndexedMessage, Party, Place};
+use model::by_value::{MOST_GUARDS, MOST_PARTIES};
 use model::{Action, Message, Ticket};
 
 pub fn run(plan: Plan, at: Setting, calls: u64) -> u64 {
@@ -67,7 +68,7 @@ fn start(plan: Plan, at: Setting) -> Desk {
     };
     let mut desk = Desk::new(at.n).expect("2 to 32 parties are made");
     desk.next_ticket = Ticket(NEXT_TICKET);
-    desk.parties = [waiter; 32];
+    desk.parties = [waiter; MOST_PARTIES];
     desk.parties[0] = starter(plan, 0);
     desk.parties[1] = starter(plan, 1);
     desk

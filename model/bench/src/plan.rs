@@ -1,6 +1,8 @@
 //! What is called, in turn. The three loops follow the same plans, and so
 //! their sums of answers are the same.
 
+use model::by_value::MOST_PARTIES;
+
 #[derive(Clone, Copy, PartialEq, Eq)]
 pub enum Plan {
     /// Whole meetings of parties 0 and 1, as in document 01's session.
@@ -25,7 +27,7 @@ pub enum Call {
 pub const MEETING: u8 = 14;
 
 /// The next ticket of every desk that a plan starts from: no less than the offers that are open in it, as crates/meter has it.
-pub const NEXT_TICKET: u32 = 32;
+pub const NEXT_TICKET: u32 = MOST_PARTIES as u32;
 
 impl Plan {
     pub const ALL: [Plan; 6] = [

@@ -1,7 +1,9 @@
 //! The proved library, through the bytes of its tables and answers.
 
 use crate::library::{Library, Reply};
-use crate::rendezvous::{self, ANSWER_BYTES, ANSWER_MESSAGE, ANSWER_WORD};
+use crate::rendezvous::{self, word, ANSWER_BYTES, ANSWER_FIRST, ANSWER_KIND};
+use crate::rendezvous::{ANSWER_MESSAGE, ANSWER_SECOND, ANSWER_WORD};
+use crate::rendezvous::{COLLECTED, MADE, MOVED, OFFERED, REFUSED, RUNNABLE, UNCHANGED};
 use crate::wire::{message_of, put_guard, Table};
 use model::{Answer, Call, Given, Guard, Outcome, Ticket};
 
@@ -65,23 +67,21 @@ enum Said {
 
 /// Reads an answer. The library always writes a known kind.
 fn read(answer: &[u8; ANSWER_BYTES]) -> Said {
-    let [kind, first, second, ..] = *answer;
+    let (first, second) = (answer[ANSWER_FIRST], answer[ANSWER_SECOND]);
     let message = message_of(&answer[ANSWER_MESSAGE..ANSWER_WORD]);
-    let word = answer[ANSWER_WORD..].try_into().expect("a word is left");
-    let word = u32::from_le_bytes(word);
-    let (index, partner) = (usize::from(first), usize::from(second));
-    Said::Given(match kind {
-        0 => return Said::Made,
-        1 => Given::Ticket(Ticket(word)),
-        2 => Given::Place(Some(place(char::from(first), usize::from(second)))),
-        3 => Given::Place(None),
-        4 => Given::Outcome(Outcome {
-            index,
-            partner,
+    let word = word(&answer[ANSWER_WORD..]);
+    Said::Given(match answer[ANSWER_KIND] {
+        MADE => return Said::Made,
+        OFFERED => Given::Ticket(Ticket(word)),
+        MOVED => Given::Place(Some(place(char::from(first), usize::from(second)))),
+        UNCHANGED => Given::Place(None),
+        COLLECTED => Given::Outcome(Outcome {
+            index: usize::from(first),
+            partner: usize::from(second),
             message,
         }),
-        5 => Given::Set(word),
-        6 => return Said::Refused(first),
+        RUNNABLE => Given::Set(word),
+        REFUSED => return Said::Refused(first),
         _ => panic!("the library answers {answer:?}"),
     })
 }
@@ -98,19 +98,23 @@ fn place(letter: char, index: usize) -> Answer {
 #[cfg(test)]
 mod tests {
     use super::*;
-    use crate::rendezvous::{GUARD_BYTES, GUARD_ENABLED, GUARD_PARTNER, LINE_BYTES};
-    use crate::rendezvous::{SESSION_BYTES, TABLE_BYTES};
+    use crate::rendezvous::{receives, BEGUN_BYTES, HEAD_BYTES, LIMIT, LINE_BYTES, RECORD_PLACE};
+    use crate::rendezvous::{SESSION_BEGUN, SESSION_BYTES, SESSION_TABLE, TABLE_BYTES, WORD_BYTES};
     use model::Message;
 
-    fn answer(start: [u8; 3], message: &[u8], word: [u8; 4]) -> [u8; ANSWER_BYTES] {
+    /// The bytes of an answer; `start` is its kind, first and second.
+    fn answer(start: [u8; 3], message: &[u8], word: [u8; WORD_BYTES]) -> [u8; ANSWER_BYTES] {
         let mut bytes = [0; ANSWER_BYTES];
-        bytes[..ANSWER_MESSAGE].copy_from_slice(&start);
+        let [kind, first, second] = start;
+        bytes[ANSWER_KIND] = kind;
+        bytes[ANSWER_FIRST] = first;
+        bytes[ANSWER_SECOND] = second;
         bytes[ANSWER_MESSAGE..][..message.len()].copy_from_slice(message);
         bytes[ANSWER_WORD..].copy_from_slice(&word);
         bytes
     }
 
-    fn given(start: [u8; 3], message: &[u8], word: [u8; 4]) -> Given {
+    fn given(start: [u8; 3], message: &[u8], word: [u8; WORD_BYTES]) -> Given {
         match read(&answer(start, message, word)) {
             Said::Given(given) => given,
             other => panic!("{other:?}"),
@@ -119,28 +123,34 @@ mod tests {
 
     #[test]
     fn answers_are_read() {
-        let zeros = [0; 4];
-        assert_eq!(read(&answer([0; 3], &[], zeros)), Said::Made);
-        assert_eq!(read(&answer([6, 11, 0], &[], zeros)), Said::Refused(11));
+        let zeros = [0; WORD_BYTES];
+        assert_eq!(read(&answer([MADE, 0, 0], &[], zeros)), Said::Made);
         assert_eq!(
-            given([1, 0, 0], &[], [1, 2, 0, 0]),
+            read(&answer([REFUSED, 11, 0], &[], zeros)),
+            Said::Refused(11)
+        );
+        assert_eq!(
+            given([OFFERED, 0, 0], &[], [1, 2, 0, 0]),
             Given::Ticket(Ticket(513))
         );
-        assert_eq!(given([3, 0, 0], &[], zeros), Given::Place(None));
-        assert_eq!(given([5, 0, 0], &[], [0, 0, 0, 128]), Given::Set(1 << 31));
+        assert_eq!(given([UNCHANGED, 0, 0], &[], zeros), Given::Place(None));
+        assert_eq!(
+            given([RUNNABLE, 0, 0], &[], [0, 0, 0, 128]),
+            Given::Set(1 << 31)
+        );
     }
 
     #[test]
     fn places_have_an_index_where_the_document_says_so() {
-        let zeros = [0; 4];
+        let zeros = [0; WORD_BYTES];
         let scanning = place('A', 7);
         assert_eq!(
-            given([2, b'A', 7], &[], zeros),
+            given([MOVED, b'A', 7], &[], zeros),
             Given::Place(Some(scanning))
         );
         assert_eq!(scanning.index, Some(7));
         assert_eq!(
-            given([2, b'M', 0], &[], zeros),
+            given([MOVED, b'M', 0], &[], zeros),
             Given::Place(Some(place('M', 0)))
         );
         assert_eq!(place('M', 0).index, None);
@@ -148,7 +158,7 @@ mod tests {
 
     #[test]
     fn collections_have_index_partner_and_message() {
-        let limit = [3, 0, 0, 128, 63, 0, 0, 0, 192];
+        let limit = [LIMIT, 0, 0, 128, 63, 0, 0, 0, 192];
         let outcome = Outcome {
             index: 2,
             partner: 9,
@@ -157,13 +167,17 @@ mod tests {
                 high: -2.0,
             },
         };
-        assert_eq!(given([4, 2, 9], &limit, [0; 4]), Given::Outcome(outcome));
+        assert_eq!(
+            given([COLLECTED, 2, 9], &limit, [0; WORD_BYTES]),
+            Given::Outcome(outcome)
+        );
     }
 
     #[test]
     fn the_library_answers() {
         let table = Proved.create(2).expect("two is a good number");
-        assert_eq!(table.bytes()[..6], [2, 0, 0, 0, 0, 0]);
+        assert_eq!(table.bytes()[..HEAD_BYTES], [2, 0, 0, 0, 0]);
+        assert_eq!(table.bytes()[HEAD_BYTES + RECORD_PLACE], 0);
         assert_eq!(Proved.create(1), Err(1));
         let reply = Proved.call(&table, &Call::Step { party: 2 });
         assert_eq!(reply.answer, Err(2));
@@ -178,9 +192,7 @@ mod tests {
     /// these lengths: it writes both buffers, or nothing if one is too short.
     fn all_or_nothing(before: &[u8], lengths: [usize; 3]) {
         let [table, out, answer] = lengths;
-        let mut guard = [0; GUARD_BYTES];
-        guard[GUARD_ENABLED] = 1;
-        guard[GUARD_PARTNER] = 1;
+        let guard = receives(true, 1);
         let given = &before[..table];
         type Fills<'a> = &'a dyn Fn(&mut [u8], &mut [u8]) -> bool;
         let calls: [Fills; 4] = [
@@ -257,6 +269,19 @@ mod tests {
                 assert_eq!(printed(input, piece, room), model::script::run(input));
             }
         }
+    }
+
+    #[test]
+    fn a_session_holds_the_begun_line_and_the_table() {
+        let (mut session, mut after) = ([0xee; SESSION_BYTES], [0xee; SESSION_BYTES]);
+        let input = [b"n 2\n".as_slice(), &[b'm'; BEGUN_BYTES + 1]].concat();
+        let mut out = vec![0xee; input.len() * LINE_BYTES];
+        assert!(rendezvous::script_start(&mut session));
+        let fed = rendezvous::script_feed(&session, &input, &mut after, &mut out);
+        assert_eq!(fed, Some((input.len(), 4)));
+        assert_eq!(after[SESSION_BEGUN..SESSION_TABLE], [b'm'; BEGUN_BYTES]);
+        let table = Proved.create(2).expect("two is a good number");
+        assert_eq!(&after[SESSION_TABLE..], table.bytes());
     }
 
     #[test]

@@ -66,13 +66,15 @@ impl Table {
 #[cfg(test)]
 mod tests {
     use super::*;
+    use crate::rendezvous::RECORD_SIGNAL;
 
     #[test]
     fn a_difference_is_told_by_record_and_byte() {
         let (one, mut other) = (Table::zero(), Table::zero());
         assert_eq!(one.first_difference(&other), None);
-        other.bytes_mut()[HEAD_BYTES + RECORD_BYTES + 12] = 1;
+        other.bytes_mut()[HEAD_BYTES + RECORD_BYTES + RECORD_SIGNAL] = 1;
         let told = one.first_difference(&other);
-        assert_eq!(told.as_deref(), Some("record 1, byte 12: 0 and 1"));
+        let words = format!("record 1, byte {RECORD_SIGNAL}: 0 and 1");
+        assert_eq!(told, Some(words));
     }
 }

@@ -1,7 +1,7 @@
 //! A desk as bytes.
 
 use super::table::{Table, BLANK};
-use crate::rendezvous::{GUARDS, MESSAGE_BYTES, PROCESSES, TABLE_BYTES};
+use crate::rendezvous::{GUARDS, PROCESSES, TABLE_BYTES};
 use model::{Desk, Guard, IndexedMessage, Message, Party, Place};
 
 /// Writes a desk; a record that it does not have is a fresh one.
@@ -46,13 +46,12 @@ pub fn put_place(out: &mut Vec<u8>, place: Place) {
 }
 
 pub fn put_signal(out: &mut Vec<u8>, signal: Option<IndexedMessage>) {
-    match signal {
-        None => out.extend([0; 2 + MESSAGE_BYTES]),
-        Some(IndexedMessage { index, message }) => {
-            out.extend([1, index as u8]);
-            put_message(out, message);
-        }
-    }
+    let (tag, index, message) = match signal {
+        None => (0, 0, Message::Nothing),
+        Some(IndexedMessage { index, message }) => (1, index, message),
+    };
+    out.extend([tag, index as u8]);
+    put_message(out, message);
 }
 
 fn put_slots(out: &mut Vec<u8>, list: &[Guard]) {
@@ -82,10 +81,13 @@ pub fn put_message(out: &mut Vec<u8>, message: Message) {
 #[cfg(test)]
 mod tests {
     use super::*;
-    use crate::rendezvous::{GUARD_MESSAGE, HEAD_BYTES, HEAD_COUNT, HEAD_NEXT};
-    use crate::rendezvous::{
-        RECORD_BYTES, RECORD_OWN, RECORD_POSTED, RECORD_SIGNAL, RECORD_TICKET,
-    };
+    use crate::rendezvous::{receives, sends};
+    use crate::rendezvous::{GUARD_BYTES, GUARD_MESSAGE, HEAD_BYTES, HEAD_COUNT};
+    use crate::rendezvous::{HEAD_NEXT, MESSAGE_BYTES, MESSAGE_KIND, RECORD_ACCEPTING};
+    use crate::rendezvous::{LIMIT, NOTHING, READING, WHOLE};
+    use crate::rendezvous::{RECORD_BYTES, RECORD_COUNTS, RECORD_INDEX, RECORD_KEPT};
+    use crate::rendezvous::{RECORD_OUTCOME, RECORD_OWN, RECORD_PLACE, RECORD_POSTED};
+    use crate::rendezvous::{RECORD_SIGNAL, RECORD_SIGNAL_MESSAGE, RECORD_TICKET};
     use model::{Action, Ticket};
 
     #[test]
@@ -104,29 +106,57 @@ mod tests {
             high: -2.0,
         };
         let record = &mut desk.parties[1];
-        record.place = Place::Committed { own: 3, kept: 4 };
+        record.place = Place::Committed { own: 3, kept: 7 };
         record.signal = Some(IndexedMessage {
             index: 5,
             message: limit,
         });
         record.ticket = Ticket(6);
         record.wake_count = 0;
-        record.posted = vec![Guard {
-            enabled: true,
+        let sending = Guard {
+            enabled: false,
             partner: 9,
             action: Action::Send(Message::Whole(-2)),
-        }];
+        };
+        let receiving = Guard {
+            enabled: true,
+            partner: 8,
+            action: Action::Receive,
+        };
+        record.posted = vec![sending, receiving];
         let table = encode(&desk);
         let (head, records) = table.bytes().split_at(HEAD_BYTES);
         let bytes = &records[RECORD_BYTES..];
         assert_eq!(head, [2, 1, 2, 3, 4]);
-        assert_eq!(bytes[..3], [4, 3, 4]);
-        let signal = [1, 5, 3, 0, 0, 128, 63, 0, 0, 0, 192];
-        assert_eq!(bytes[RECORD_SIGNAL..RECORD_TICKET], signal);
-        assert_eq!(bytes[RECORD_TICKET..RECORD_OWN], [6, 0, 0, 0, 1, 0, 1]);
-        let posted = &bytes[RECORD_POSTED..];
-        assert_eq!(posted[..GUARD_MESSAGE], [1, 9, 1]);
-        let message = [1, 254, 255, 255, 255, 0, 0, 0, 0];
-        assert_eq!(posted[GUARD_MESSAGE..][..MESSAGE_BYTES], message);
+        assert_eq!(bytes[RECORD_PLACE], 4);
+        assert_eq!(bytes[RECORD_INDEX], 3);
+        assert_eq!(bytes[RECORD_KEPT], 7);
+        assert_eq!(bytes[RECORD_OUTCOME..RECORD_SIGNAL], [0; MESSAGE_BYTES]);
+        assert_eq!(bytes[RECORD_SIGNAL..RECORD_SIGNAL_MESSAGE], [1, 5]);
+        let signalled = [3, 0, 0, 128, 63, 0, 0, 0, 192];
+        assert_eq!(bytes[RECORD_SIGNAL_MESSAGE..RECORD_TICKET], signalled);
+        assert_eq!(bytes[RECORD_TICKET..RECORD_ACCEPTING], [6, 0, 0, 0]);
+        assert_eq!(bytes[RECORD_ACCEPTING], 1);
+        assert_eq!(bytes[RECORD_COUNTS..RECORD_OWN], [0, 2]);
+        let (first, rest) = bytes[RECORD_POSTED..].split_at(GUARD_BYTES);
+        assert_eq!(first[..GUARD_MESSAGE], [0, 9, 1]);
+        assert_eq!(first[GUARD_MESSAGE..], [1, 254, 255, 255, 255, 0, 0, 0, 0]);
+        assert_eq!(first, sends(false, 9, WHOLE, 0xffff_fffe, 0));
+        assert_eq!(rest[..GUARD_BYTES], receives(true, 8));
+    }
+
+    #[test]
+    fn messages_have_their_kinds() {
+        let (low, high) = (1.0, -2.0);
+        for (message, kind) in [
+            (Message::Nothing, NOTHING),
+            (Message::Whole(7), WHOLE),
+            (Message::Reading(low), READING),
+            (Message::Limit { low, high }, LIMIT),
+        ] {
+            let mut bytes = Vec::new();
+            put_message(&mut bytes, message);
+            assert_eq!(bytes[MESSAGE_KIND], kind);
+        }
     }
 }
