@@ -28,10 +28,6 @@ tableAt = begunAt + begunLength
 abbrev pub sessionLength : ℕ
 sessionLength = tableAt + tableLength
 
--- what a line of a script prints at most
-abbrev pub lineLength : ℕ
-lineLength = 64
-
 -- the numbers that docs/BYTES.md gives
 abbrev pub AnswerAndSession : Type 0
 AnswerAndSession = (answerLength ≡ 16) × (sessionLength ≡ 7312)

@@ -19,6 +19,3 @@ pub const BEGUN_BYTES: usize = 201;
 pub const TABLE_AT: usize = BEGUN_AT + BEGUN_BYTES;
 
 pub const SESSION_BYTES: usize = TABLE_AT + TABLE_BYTES;
-
-// What a line of a script prints at most.
-pub const LINE_BYTES: usize = 64;

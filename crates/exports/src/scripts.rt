@@ -2,6 +2,7 @@
 use crate::layout;
 use script::Session;
 use script::least;
+use text::LINE_BYTES;
 use text::Text;
 use wire::TABLE_BYTES;
 use wire::byte_at;
@@ -15,9 +16,8 @@ ghost use mathlib.Core.Bool.{true, cond};
 ghost use mathlib.Core.List.{_++_};
 ghost use lib.Dec.{leb};
 ghost use lib.ListN.{length, take, drop};
-ghost use Rattle.text.specs.Writing.{shown};
+ghost use Rattle.text.specs.Writing.{shown, lineLength};
 ghost use Rattle.script.specs.Feeding.{stateHeld};
-ghost use Rattle.exports.specs.Layout.{lineLength};
 ghost use Rattle.exports.specs.Scripts.{stateIn, Stored};
 
 // The session that bytes are read as.
@@ -61,8 +61,8 @@ pub fn put_text(text: Text, out: &mut [u8]) -> usize
     ensures { λ r. ⌜ (r ≡ cond (leb lineLength (length (now (out .entry)))) (length (shown text)) 0) × (now (out .exit) ≡ take r (shown text) ++ drop r (now (out .entry))) ⌝ }
 {
     let bytes = text.bytes;
-    let count = least(text.length, layout::LINE_BYTES);
-    if out.len() < layout::LINE_BYTES {
+    let count = least(text.length, LINE_BYTES);
+    if out.len() < LINE_BYTES {
         return 0;
     }
     put_bytes(out, 0, &bytes[..count]);

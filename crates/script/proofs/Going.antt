@@ -8,6 +8,7 @@ use native.Mathlib.Omega.{arith}
 use lib.ListN.{length, take, drop, getD, length-append, length-take, length-drop, drop-of-length-le, take-append-drop}
 use lib.Seq.{drop-cons, take-at, drop-at, length-take-le, drop-drop}
 use borrow.Author.Tests.{eq-eqb, ne-eqb}
+use Rattle.text.specs.Writing.{lineLength}
 use Rattle.script.specs.Types.{ProcessTable}
 use Rattle.script.specs.Printing.{endOfLine}
 use Rattle.script.specs.Lines.{Ended, mostBytes, lineCommand}
@@ -19,7 +20,7 @@ use Rattle.script.proofs.Turns.{turn-length}
 pub record Going (s₀ : SessionState) (input out₀ : List ℕ) (s : SessionState) (i : ℕ) (out : List ℕ) (filled : ℕ) : Type 0 where
   pub same : andThen (take filled out) (fed s (drop i input)) ≡ fed s₀ input
   pub past : drop filled out ≡ drop filled out₀
-  pub room : filled ≤ 64 * i
+  pub room : filled ≤ lineLength * i
   pub long : length out ≡ length out₀
 
 pub going-start : (s : SessionState) (input out : List ℕ) → Going s input out s 0 out 0
@@ -54,12 +55,12 @@ module _ (s₀ : SessionState) (input out₀ : List ℕ) (s : SessionState) (i :
   -- a byte that ends the line
   pub going-line : (text : List ℕ) (table : Option ProcessTable) (out′ : List ℕ) (filled′ : ℕ) → b ≡ endOfLine
       → _≡_ {A = Turn} (record { prints = text; table = table }) (turn (s .table) (lineCommand (Ended (s .begun))))
-      → filled + 64 ≤ length out → filled′ ≡ filled + length text → out′ ≡ take filled out ++ text ++ drop filled′ out
+      → filled + lineLength ≤ length out → filled′ ≡ filled + length text → out′ ≡ take filled out ++ text ++ drop filled′ out
       → Going s₀ input out₀ (record { begun = []; table = table }) (i + 1) out′ filled′
   unfolding rest fedByte lineEnded
   going-line text table out′ filled′ n t r f o =
       let ended : fed s (drop i input) ≡ andThen text (fed (record { begun = []; table = table }) (drop (i + 1) input)) = rw (eq-eqb b endOfLine n, ← t) at by-byte in
-      let short : length text ≤ 64 = rw (← t) at (turn-length (s .table) (lineCommand (Ended (s .begun)))) in
+      let short : length text ≤ lineLength = rw (← t) at (turn-length (s .table) (lineCommand (Ended (s .begun)))) in
       let at : length (take filled out ++ text) ≡ filled′ = simp (length-append, length-take) (omega arith) in
       let taken : take filled′ out′ ≡ take filled out ++ text = rw o (take-at (take filled out ++ text) (drop filled′ out) filled′ at) in
       let dropped : drop filled′ out′ ≡ drop filled′ out = rw o (drop-at (take filled out ++ text) (drop filled′ out) filled′ at) in

@@ -20,12 +20,13 @@ use rendezvous::ProcessTable;
 use rendezvous::form_end;
 use rendezvous::form_more;
 use rendezvous::form_start;
+use text::LINE_BYTES;
 use text::Text;
 ghost use Prim.Native.Nat.{_/_, min};
 ghost use mathlib.Core.Path.{_≡_};
 ghost use mathlib.Core.List.{_++_};
 ghost use lib.ListN.{length, take, drop};
-ghost use Rattle.text.specs.Writing.{shown};
+ghost use Rattle.text.specs.Writing.{shown, lineLength};
 ghost use Rattle.script.specs.Feeding.{start, stateHeld, fed, finished};
 
 // A session before its first byte. The table of no process stands in for the one that is not made yet.
@@ -43,10 +44,10 @@ pub fn start() -> Session
     }
 }
 
-// Feeds a piece of the input, and writes what its lines print to the start of `out`. No line prints more than 64 bytes, so as many
+// Feeds a piece of the input, and writes what its lines print to the start of `out`. No line prints more than `LINE_BYTES`, so as many
 // bytes are taken as `out` has room for if each of them ends a line. The session may hold any length: past its 201 bytes it counts as 201.
 pub fn feed(session: Session, piece: &[u8], out: &mut [u8]) -> Fed
-    ensures taken { λ r. ⌜ r .taken ≡ min (length (now (piece .entry))) (length (now (out .entry)) / 64) ⌝ }
+    ensures taken { λ r. ⌜ r .taken ≡ min (length (now (piece .entry))) (length (now (out .entry)) / lineLength) ⌝ }
     ensures filled { λ r. ⌜ r .filled ≡ length (fed (stateHeld session) (take (r .taken) (now (piece .entry))) .prints) ⌝ }
     ensures session { λ r. ⌜ stateHeld (r .session) ≡ fed (stateHeld session) (take (r .taken) (now (piece .entry))) .state ⌝ }
     ensures written { λ r. ⌜ now (out .exit) ≡ fed (stateHeld session) (take (r .taken) (now (piece .entry))) .prints ++ drop (r .filled) (now (out .entry)) ⌝ }
@@ -55,7 +56,7 @@ pub fn feed(session: Session, piece: &[u8], out: &mut [u8]) -> Fed
     let mut table = session.table;
     let mut bytes = session.bytes;
     let mut held = least(session.length, MOST_BYTES + 1);
-    let taken = least(piece.len(), out.len() / 64);
+    let taken = least(piece.len(), out.len() / LINE_BYTES);
     let mut filled: usize = 0;
     let mut i: usize = 0;
     while i < taken {

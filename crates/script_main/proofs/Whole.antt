@@ -8,6 +8,7 @@ use lib.Dec.{leb}
 use lib.ListN.{length, take, drop, length-append}
 use lib.Seq.{take-all, take-length, take-at}
 use borrow.Author.Tests.{leb-true, leb-false}
+use Rattle.text.specs.Writing.{lineLength}
 use Rattle.script.specs.Feeding.{SessionState, fed}
 
 -- no more can be taken than there is
@@ -21,7 +22,7 @@ take-most n l = go (leb n (length l)) refl
         rw h (take-length l ∙ sym (take-all n l (omega (arith, leb-false n (length l) t))))
 
 -- Where the output has room for what a piece prints, all of the piece is fed.
-pub fed-whole : (s : SessionState) (piece out₀ out : List ℕ) (taken filled : ℕ) (after : SessionState) → 64 * length piece ≤ length out₀ → taken ≡ min (length piece) (length out₀ / 64)
+pub fed-whole : (s : SessionState) (piece out₀ out : List ℕ) (taken filled : ℕ) (after : SessionState) → lineLength * length piece ≤ length out₀ → taken ≡ min (length piece) (length out₀ / lineLength)
     → filled ≡ length (fed s (take taken piece) .prints) → after ≡ fed s (take taken piece) .state → out ≡ fed s (take taken piece) .prints ++ drop filled out₀
     → (after ≡ fed s piece .state) × ((take filled out ≡ fed s piece .prints) × (filled ≤ length out))
 fed-whole s piece out₀ out taken filled after h t f a o =

@@ -7,7 +7,7 @@ use borrow.Author.Needs.{needs}
 use lib.ListN.{length, take, getD, set, length-take, length-set}
 use lib.Seq.{getD-take}
 use Rattle.text.proofs.Capped.{put-more, put-none}
-use Rattle.text.specs.Writing.{shown}
+use Rattle.text.specs.Writing.{shown, lineLength}
 use Rattle.rendezvous.specs.Table.{mostProcesses}
 use Rattle.rendezvous.proofs.Lengths.{length-mapped}
 use Rattle.rendezvous.proofs.Forms.{FormAt, form-start, form-more, form-end}
@@ -66,7 +66,7 @@ loop2-again c =
     )
 
 -- there is room for a line
-room : (c : tie.In-loop Inv-loop2 μ-loop2 Inv-loop μ-loop) → c .before .loop .filled + 64 ≤ length (c .before .loop .out)
+room : (c : tie.In-loop Inv-loop2 μ-loop2 Inv-loop μ-loop) → c .before .loop .filled + lineLength ≤ length (c .before .loop .out)
 room c =
     let g = c .before .loop .inv .4 in
     omega (arith, c .before .before .least2 .ensures, g .room, g .long)
