@@ -1,7 +1,7 @@
 -- To be believed. How many bytes an answer and a session take, and where in them each part stands. A part without a name here is one byte, and stands behind the one
 -- before it.
-use Prim.Native.Nat.{suc, _+_}
-use Rattle.script.specs.Lines.{mostBytes}
+use Prim.Native.Nat.{_+_}
+use Rattle.script.specs.Lines.{begunLength}
 use Rattle.wire.specs.Layout.{wordLength, messageLength, tableLength}
 use Rattle.exports.specs.Types.{ℕ, _≡_}
 
@@ -18,9 +18,6 @@ answerLength = wordAt + wordLength
 -- a session: whether a table was made, how many bytes the begun line has, room for as many as it may have, the table
 abbrev pub begunAt : ℕ
 begunAt = 2
-
-abbrev pub begunLength : ℕ
-begunLength = suc mostBytes
 
 abbrev pub tableAt : ℕ
 tableAt = begunAt + begunLength

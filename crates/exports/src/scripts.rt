@@ -1,5 +1,6 @@
 // A session of the script program between two pieces of its input, in bytes, and what it prints.
 use crate::layout;
+use script::BEGUN_BYTES;
 use script::Session;
 use script::least;
 use text::LINE_BYTES;
@@ -24,7 +25,7 @@ ghost use Rattle.exports.specs.Scripts.{stateIn, Stored};
 pub fn session_in(state: &[u8]) -> Session
     ensures { λ r. ⌜ stateHeld r ≡ stateIn (now (state .entry)) ⌝ }
 {
-    let mut bytes = [0u8; layout::BEGUN_BYTES];
+    let mut bytes = [0u8; BEGUN_BYTES];
     put_bytes(&mut bytes, 0, from(state, layout::BEGUN_AT));
     let table = decode(from(state, layout::TABLE_AT));
     Session {
@@ -44,7 +45,7 @@ pub fn put_session(session: Session, out: &mut [u8]) -> bool
     let mut encoded = [0u8; TABLE_BYTES];
     encode(table, &mut encoded);
     // a begun line never holds more bytes than it has room for, whatever a session says
-    let length = least(session.length, layout::BEGUN_BYTES) as u8;
+    let length = least(session.length, BEGUN_BYTES) as u8;
     let head = [flag_byte(session.made), length];
     let bytes = session.bytes;
     if out.len() < layout::SESSION_BYTES {

@@ -1,5 +1,5 @@
 -- The loop over a piece: what is filled, and what is still to be fed, together make what the whole piece prints.
-use Prim.Native.Nat.{ℕ, suc, _+_, _*_, _≤_, _<_}
+use Prim.Native.Nat.{ℕ, _+_, _*_, _≤_, _<_}
 use mathlib.Core.Path.{_≡_, refl, sym, ap, _∙_}
 use mathlib.Core.List.{List, [], _∷_, _++_, append-assoc, append-nil}
 use mathlib.Core.Option.{Option}
@@ -11,7 +11,7 @@ use borrow.Author.Tests.{eq-eqb, ne-eqb}
 use Rattle.text.specs.Writing.{lineLength}
 use Rattle.script.specs.Types.{ProcessTable}
 use Rattle.script.specs.Printing.{endOfLine}
-use Rattle.script.specs.Lines.{Ended, mostBytes, lineCommand}
+use Rattle.script.specs.Lines.{Ended, begunLength, lineCommand}
 use Rattle.script.specs.Session.{Turn, turn}
 use Rattle.script.specs.Feeding.{SessionState, After, andThen, lineEnded, lineGrown, fedByte, fed}
 use Rattle.script.proofs.Turns.{turn-length}
@@ -46,7 +46,7 @@ module _ (s₀ : SessionState) (input out₀ : List ℕ) (s : SessionState) (i :
   by-byte = rw e (one-more s input i h)
 
   -- a byte that goes on with the line
-  pub going-byte : (begun : List ℕ) → (b ≡ endOfLine → ⊥) → begun ≡ take (suc mostBytes) (s .begun ++ b ∷ []) → Going s₀ input out₀ (record { begun = begun; table = s .table }) (i + 1) out filled
+  pub going-byte : (begun : List ℕ) → (b ≡ endOfLine → ⊥) → begun ≡ take begunLength (s .begun ++ b ∷ []) → Going s₀ input out₀ (record { begun = begun; table = s .table }) (i + 1) out filled
   unfolding rest fedByte lineGrown
   going-byte begun n f =
       let grown : fed s (drop i input) ≡ fed (record { begun = begun; table = s .table }) (drop (i + 1) input) = rw f (rw (ne-eqb b endOfLine n) at by-byte) in

@@ -6,7 +6,7 @@ use crate::Session;
 use crate::acting::created;
 use crate::acting::is_movers;
 use crate::acting::line_act;
-use crate::lines::MOST_BYTES;
+use crate::lines::BEGUN_BYTES;
 use crate::lines::heard;
 use crate::lines::is_new;
 use crate::lines::is_refused;
@@ -33,7 +33,7 @@ ghost use Rattle.script.specs.Feeding.{start, stateHeld, fed, finished};
 pub fn start() -> Session
     ensures { λ r. ⌜ stateHeld r ≡ start ⌝ }
 {
-    let bytes = [0u8; 201];
+    let bytes = [0u8; BEGUN_BYTES];
     let reply = ProcessTable::create(0);
     let table = reply.table;
     Session {
@@ -45,7 +45,8 @@ pub fn start() -> Session
 }
 
 // Feeds a piece of the input, and writes what its lines print to the start of `out`. No line prints more than `LINE_BYTES`, so as many
-// bytes are taken as `out` has room for if each of them ends a line. The session may hold any length: past its 201 bytes it counts as 201.
+// bytes are taken as `out` has room for if each of them ends a line. The session may hold any length: one past `BEGUN_BYTES` counts as
+// `BEGUN_BYTES`.
 pub fn feed(session: Session, piece: &[u8], out: &mut [u8]) -> Fed
     ensures taken { λ r. ⌜ r .taken ≡ min (length (now (piece .entry))) (length (now (out .entry)) / lineLength) ⌝ }
     ensures filled { λ r. ⌜ r .filled ≡ length (fed (stateHeld session) (take (r .taken) (now (piece .entry))) .prints) ⌝ }
@@ -55,7 +56,7 @@ pub fn feed(session: Session, piece: &[u8], out: &mut [u8]) -> Fed
     let mut made = session.made;
     let mut table = session.table;
     let mut bytes = session.bytes;
-    let mut held = least(session.length, MOST_BYTES + 1);
+    let mut held = least(session.length, BEGUN_BYTES);
     let taken = least(piece.len(), out.len() / LINE_BYTES);
     let mut filled: usize = 0;
     let mut i: usize = 0;
@@ -106,7 +107,7 @@ pub fn feed(session: Session, piece: &[u8], out: &mut [u8]) -> Fed
             }
             filled = put(out, filled, printed_line(kind, command.number, answer));
             held = 0;
-        } else if held <= MOST_BYTES {
+        } else if held < BEGUN_BYTES {
             bytes[held] = b;
             held = held + 1;
         }

@@ -13,6 +13,9 @@ ghost use Rattle.script.specs.Private.{isNew, heard};
 // The most bytes that a line may have.
 pub const MOST_BYTES: usize = 200;
 
+// The room for a begun line: one byte more than a line may have tells an overlong one.
+pub const BEGUN_BYTES: usize = MOST_BYTES + 1;
+
 // The command of a line that has ended.
 pub fn line_command(line: &[u8]) -> Parsed
     ensures { λ r. ⌜ r ≡ asParsed (lineCommand (Line.Ended (now (line .entry)))) ⌝ }
