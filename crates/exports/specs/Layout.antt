@@ -1,6 +1,7 @@
 -- To be believed. How many bytes an answer and a session take, and where in them each part stands. A part without a name here is one byte, and stands behind the one
 -- before it.
 use Prim.Native.Nat.{_+_}
+use Rattle.text.specs.Writing.{lineLength}
 use Rattle.script.specs.Lines.{begunLength}
 use Rattle.wire.specs.Layout.{wordLength, messageLength, tableLength}
 use Rattle.exports.specs.Types.{ℕ, _≡_}
@@ -25,6 +26,7 @@ tableAt = begunAt + begunLength
 abbrev pub sessionLength : ℕ
 sessionLength = tableAt + tableLength
 
--- the numbers that docs/BYTES.md gives
+-- The numbers that docs/BYTES.md gives: where the word of an answer stands, and how long an answer is; where the table of a session stands, and how long a session is. And
+-- the one that rendezvous.h gives: how long a printed line is at most.
 abbrev pub AnswerAndSession : Type 0
-AnswerAndSession = (answerLength ≡ 16) × (sessionLength ≡ 7312)
+AnswerAndSession = (wordAt ≡ 12) × (answerLength ≡ 16) × (tableAt ≡ 203) × (sessionLength ≡ 7312) × (lineLength ≡ 64)

@@ -130,7 +130,8 @@ pub extern "C" fn rendezvous_script_finish(state: &[u8], out: &mut [u8]) -> usiz
     put_text(script::finish(session), out)
 }
 
-// Carries how long the bytes of an answer and of a session are.
+// Carries the numbers of these lengths and offsets: of an answer where its word stands and how long it is, of a session where its table
+// stands and how long it is, and how long a printed line is at most.
 pub fn byte_lengths()
     ensures { λ _. ⌜ AnswerAndSession ⌝ }
 {}
