@@ -15,10 +15,10 @@ use mir.Facts.{toZ-ofZ}
 use Rattle.io.specs.Counts.{clamped}
 use Rattle.libc.specs.Io.{Moved}
 use Rattle.script.specs.Feeding.{SessionState, stateHeld, fed, fedPieces}
+use Rattle.script.proofs.Lists.{take-most}
 use Rattle.script_main.specs.declared.Status.the-variants.{Going, Ended, Unreadable, Endless}
 use Rattle.script_main.specs.declared.Progress.{Progress}
 use Rattle.script_main.specs.Turns.{Turn, count, pieceOf, afterRead, afterWrite, isGoing, statusOf, pieces, statusAfter, AllTurns}
-use Rattle.script_main.proofs.Whole.{take-most}
 
 -- what `read` returned, by its sign
 pub read-failed : (z : ℤ) → ltZ z (pos 0) ≡ true → Unreadable ≡ afterRead z
@@ -52,7 +52,7 @@ unfolding pieceOf
 counted t = go (t .got)
   where
     go : (z : ℤ) → take (clamped z (length (t .buffer))) (t .buffer) ≡ take (count z) (t .buffer)
-    go (pos n) = take-most n (t .buffer)
+    go (pos n) = take-most (t .buffer) n (length (t .buffer)) refl
     go (negsuc n) = refl
 
 pub counted-fed : (s : SessionState) (t : Turn) (n : ℕ) → n ≡ clamped (t .got) (length (t .buffer)) → fed s (take n (t .buffer)) .state ≡ fed s (pieceOf t) .state

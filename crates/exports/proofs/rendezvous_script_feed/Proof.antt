@@ -1,10 +1,10 @@
 use mathlib.Core.Path.{refl, sym, _∙_}
-use mathlib.Core.Bool.{true, false≢true}
+use mathlib.Core.Bool.{false≢true}
 use borrow.Author.Needs.{needs}
 use borrow.Author.Tests.{not-true, not-false}
+use Rattle.alternative.proofs.Tests.{and-parts}
 use Rattle.script.specs.Feeding.{fed}
 use Rattle.exports.specs.Scripts.{isSession}
-use Rattle.exports.proofs.Giving.{both-true}
 use Rattle.exports.proofs.Sessions.{stored-read}
 use Rattle.exports.proofs.rendezvous_script_feed.Statement.{statement}
 use Rattle.exports.proofs.rendezvous_script_feed.Tie as tie
@@ -26,7 +26,7 @@ returns-2 c =
     let f = p .before .before .before .before .before in
     let i = f .before .before .before in
     let a = i .before .before .before .before .before .args in
-    let w = both-true (isSession (a .state .now)) (isSession (a .after .now)) (not-false _ (i .if1 .left)) in
+    let w = and-parts (isSession (a .state .now)) (isSession (a .after .now)) (not-false _ (i .if1 .left)) in
     let s = f .before .before .session-in .ensures in
     let e = f .feed .ensures in
     let k = rw (e .1 .1 .0, s) at (p .put-session .ensures) in

@@ -5,8 +5,8 @@ use borrow.Author.Needs.{needs}
 use borrow.Author.Tests.{not-true, not-false}
 use lib.ListN.{length, length-take}
 use Rattle.text.specs.Writing.{shown, lineLength}
+use Rattle.script.proofs.Lists.{take-most}
 use Rattle.script_main.specs.Turns.{isEnded}
-use Rattle.script_main.proofs.Whole.{take-most}
 use Rattle.script_main.proofs.write_end.Statement.{statement}
 use Rattle.script_main.proofs.write_end.Tie as tie
 
@@ -27,7 +27,7 @@ write-finished-requires c κs =
     let text = c .before .before .before .finish in
     let h : length (text .result .bytes) ≡ lineLength = search needs in (
       sym (ended .before .has-ended .ensures) ∙ not-false _ (ended .if1 .left),
-      rw (c .before .least .ensures, ← h) (take-most (text .result .length) (text .result .bytes) ∙ text .ensures),
+      rw (c .before .least .ensures) (take-most (text .result .bytes) (text .result .length) lineLength h ∙ text .ensures),
     )
 
 returns : tie.Need-returns
