@@ -4,12 +4,12 @@
 use crate::Fed;
 use crate::Session;
 use crate::acting::created;
-use crate::acting::is_movers;
+use crate::acting::is_refused;
 use crate::acting::line_act;
 use crate::lines::BEGUN_BYTES;
 use crate::lines::heard;
+use crate::lines::is_movers;
 use crate::lines::is_new;
-use crate::lines::is_refused;
 use crate::lines::line_command;
 use crate::output::least;
 use crate::output::put;

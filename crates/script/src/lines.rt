@@ -3,12 +3,10 @@ use command::Kind;
 use command::Parsed;
 use command::parse;
 use command::plain_command;
-use rendezvous::Answer;
 ghost use mathlib.Core.Path.{_≡_};
 ghost use Rattle.command.specs.InCode.{asParsed};
 ghost use Rattle.script.specs.Lines.{Line, lineCommand};
-ghost use Rattle.script.specs.Session.{isRefused};
-ghost use Rattle.script.specs.Private.{isNew, heard};
+ghost use Rattle.script.specs.Private.{isNew, isMovers, heard};
 
 // The most bytes that a line may have.
 pub const MOST_BYTES: usize = 200;
@@ -40,6 +38,20 @@ pub fn is_new(kind: Kind) -> bool
     }
 }
 
+// Whether a command asks for the movers.
+pub fn is_movers(kind: Kind) -> bool
+    ensures { λ r. ⌜ r ≡ isMovers kind ⌝ }
+{
+    match kind {
+        Kind::Movers => true,
+        Kind::New => false,
+        Kind::Malformed => false,
+        Kind::Offer => false,
+        Kind::Step => false,
+        Kind::Collect => false,
+    }
+}
+
 // A command as it counts: before a table was made, all but `n` are malformed.
 pub fn heard(made: bool, command: Parsed) -> Parsed
     ensures { λ r. ⌜ r ≡ heard made command ⌝ }
@@ -49,19 +61,4 @@ pub fn heard(made: bool, command: Parsed) -> Parsed
         return command;
     }
     plain_command(Kind::Malformed, 0)
-}
-
-// Whether a call was turned away.
-pub fn is_refused(answer: Answer) -> bool
-    ensures { λ r. ⌜ r ≡ isRefused answer ⌝ }
-{
-    match answer {
-        Answer::Refused(_) => true,
-        Answer::Made => false,
-        Answer::Offered(_) => false,
-        Answer::Moved(_) => false,
-        Answer::Unchanged => false,
-        Answer::Collected(_, _, _) => false,
-        Answer::Runnable(_) => false,
-    }
 }
