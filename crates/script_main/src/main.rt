@@ -15,7 +15,7 @@ ghost use mathlib.Core.Bool.{true};
 ghost use lib.ListN.{length, take};
 ghost use Rattle.text.specs.Writing.{lineLength};
 ghost use Rattle.script.specs.Feeding.{stateHeld, fed, finished};
-ghost use Rattle.script_main.specs.Turns.{isEnded, OneTurn, AllTurns, AtEnd, sentenceOf};
+ghost use Rattle.script_main.specs.Turns.{isEnded, OnePass, AllPasses, AtEnd, sentenceOf};
 
 mod answers;
 
@@ -85,7 +85,7 @@ fn write_sentence(status: Status, sentence: &[u8])
 // One read, and what it makes the session print.
 fn read_once(session: Session, input: &mut [u8], output: &mut [u8]) -> Progress
     requires { ⌜ lineLength * length (now input) ≤ length (now output) ⌝ }
-    ensures { λ r. ⌜ OneTurn (stateHeld session) (now (input .exit)) r ⌝ }
+    ensures { λ r. ⌜ OnePass (stateHeld session) (now (input .exit)) r ⌝ }
 {
     let got = libc::read(STDIN_FILENO, input);
     let status = after_read(got);
@@ -110,7 +110,7 @@ fn read_once(session: Session, input: &mut [u8], output: &mut [u8]) -> Progress
 // Reads to the end of the input, or to the first failure. The count of reads falls, so that the loop ends; no input has as many.
 fn read_all(session: Session, input: &mut [u8], output: &mut [u8]) -> Progress
     requires { ⌜ lineLength * length (now input) ≤ length (now output) ⌝ }
-    ensures { λ r. ⌜ AllTurns (stateHeld session) r ⌝ }
+    ensures { λ r. ⌜ AllPasses (stateHeld session) r ⌝ }
 {
     let mut now = session;
     let mut left: u64 = 18446744073709551615;
