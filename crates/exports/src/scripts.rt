@@ -19,7 +19,14 @@ ghost use lib.Dec.{leb};
 ghost use lib.ListN.{length, take, drop};
 ghost use Rattle.text.specs.Writing.{shown, lineLength};
 ghost use Rattle.script.specs.Feeding.{stateHeld};
-ghost use Rattle.exports.specs.Scripts.{stateIn, Stored};
+ghost use Rattle.exports.specs.Scripts.{stateIn, isSession, Stored};
+
+// Whether bytes are enough for a session.
+pub fn is_session(bytes: &[u8]) -> bool
+    ensures { λ r. ⌜ r ≡ isSession (now (bytes .entry)) ⌝ }
+{
+    layout::SESSION_BYTES <= bytes.len()
+}
 
 // The session that bytes are read as.
 pub fn session_in(state: &[u8]) -> Session
@@ -48,7 +55,7 @@ pub fn put_session(session: Session, out: &mut [u8]) -> bool
     let length = least(session.length, BEGUN_BYTES) as u8;
     let head = [flag_byte(session.made), length];
     let bytes = session.bytes;
-    if out.len() < layout::SESSION_BYTES {
+    if !is_session(out) {
         return false;
     }
     put_bytes(out, 0, &head);
