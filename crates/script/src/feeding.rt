@@ -87,6 +87,7 @@ pub fn feed(session: Session, piece: &[u8], out: &mut [u8]) -> Fed
             let act = line_act(command, form_end(form, head), head, x, q, y);
             // what it does
             if act.told {
+                // Read anew: y would be held, and so copied, across the rule.
                 let partner = table.processes[there];
                 let signal = act.signal;
                 table.processes[there] = partner.told(act.accepting, signal);
