@@ -65,7 +65,6 @@ pub fn feed(session: Session, piece: &[u8], out: &mut [u8]) -> Fed
         i = i + 1;
         if b == b'\n' {
             let command = heard(made, line_command(&bytes[..held]));
-            let kind = command.kind;
             // what a call reads: whether the table is well-formed, and the records of its process and of the partner
             let head = table.head;
             let mut form = form_start(head);
@@ -97,16 +96,16 @@ pub fn feed(session: Session, piece: &[u8], out: &mut [u8]) -> Fed
             let mut answer = act.answer;
             table.processes[at] = own;
             table.head = after;
-            if is_new(kind) {
+            if is_new(command) {
                 let reply = created(table, command.number);
                 answer = reply.answer;
                 table = reply.table;
                 made = made | !is_refused(answer);
-            } else if is_movers(kind) {
+            } else if is_movers(command) {
                 let reply = table.runnable();
                 answer = reply.answer;
             }
-            filled = put(out, filled, printed_line(kind, command.number, answer));
+            filled = put(out, filled, printed_line(command, answer));
             held = 0;
         } else if held < BEGUN_BYTES {
             bytes[held] = b;

@@ -25,9 +25,10 @@ pub fn line_command(line: &[u8]) -> Parsed
 }
 
 // Whether a command makes a table.
-pub fn is_new(kind: Kind) -> bool
-    ensures { λ r. ⌜ r ≡ isNew kind ⌝ }
+pub fn is_new(command: Parsed) -> bool
+    ensures { λ r. ⌜ r ≡ isNew (command .kind) ⌝ }
 {
+    let kind = command.kind;
     match kind {
         Kind::New => true,
         Kind::Malformed => false,
@@ -39,9 +40,10 @@ pub fn is_new(kind: Kind) -> bool
 }
 
 // Whether a command asks for the movers.
-pub fn is_movers(kind: Kind) -> bool
-    ensures { λ r. ⌜ r ≡ isMovers kind ⌝ }
+pub fn is_movers(command: Parsed) -> bool
+    ensures { λ r. ⌜ r ≡ isMovers (command .kind) ⌝ }
 {
+    let kind = command.kind;
     match kind {
         Kind::Movers => true,
         Kind::New => false,
@@ -56,8 +58,7 @@ pub fn is_movers(kind: Kind) -> bool
 pub fn heard(made: bool, command: Parsed) -> Parsed
     ensures { λ r. ⌜ r ≡ heard made command ⌝ }
 {
-    let kind = command.kind;
-    if made | is_new(kind) {
+    if made | is_new(command) {
         return command;
     }
     plain_command(Kind::Malformed, 0)

@@ -24,10 +24,10 @@ use Rattle.script.proofs.feeding.feed.Statement.{statement}
 use Rattle.script.proofs.feeding.feed.Tie as tie
 
 abbrev Inv-loop2 : tie.InvT-loop2
-Inv-loop2 piece out made table bytes held taken filled i b command kind head form₀ k₀ form k = (k ≤ head .n) × (length (table .processes) ≡ mostProcesses) × FormAt table k form
+Inv-loop2 piece out made table bytes held taken filled i b command head form₀ k₀ form k = (k ≤ head .n) × (length (table .processes) ≡ mostProcesses) × FormAt table k form
 
 abbrev μ-loop2 : tie.MeasureT-loop2
-μ-loop2 piece out made table bytes held taken filled i b command kind head form₀ k₀ form k = head .n - k
+μ-loop2 piece out made table bytes held taken filled i b command head form₀ k₀ form k = head .n - k
 
 abbrev Inv-loop : tie.InvT-loop
 Inv-loop piece out₀ made₀ table₀ bytes₀ held₀ taken filled₀ i₀ out made table bytes held filled i = (i ≤ taken) × (held ≤ begunLength) × (length bytes ≡ begunLength) × Sized table × Going (record { begun = take held₀ bytes₀; table = tableIf made₀ table₀ }) (take taken piece) out₀ (record { begun = take held bytes; table = tableIf made table }) i out filled
