@@ -7,6 +7,7 @@ use borrow.Author.Tests.{leb-true}
 use lib.Dec.{leb}
 use lib.ListN.{length}
 use lib.Seq.{sets}
+use Rattle.alternative.proofs.Tests.{and-parts}
 use Rattle.rendezvous.specs.Numbers.{said}
 use Rattle.wire.specs.Claims.{Faithful}
 use Rattle.wire.specs.Layout.{tableLength}
@@ -15,10 +16,6 @@ use Rattle.wire.proofs.Lists.{sets-front}
 use Rattle.exports.specs.Types.{Reply}
 use Rattle.exports.specs.Layout.{answerLength}
 use Rattle.exports.specs.Answers.{saidBytes, isTable, Gives}
-
-pub both-true : (a b : Bool) → (a && b) ≡ true → (a ≡ true) × (b ≡ true)
-both-true true b e = (refl, e)
-both-true false b e = absurd (false≢true e)
 
 module _ (read : Bool) (reply : Reply) (t a : List ℕ) where
   abbrev enough : Bool
@@ -31,6 +28,6 @@ module _ (read : Bool) (reply : Reply) (t a : List ℕ) where
       → a′ ≡ sets a 0 (saidBytes (said (reply .answer))) → Faithful (reply .table) → Gives read reply t a t′ a′ true
   unfolding onto
   gives-both t′ a′ e n et ea f =
-      let w = both-true (read && isTable t) (leb answerLength (length a)) e in
-      let l : isTable t ≡ true = both-true read (isTable t) (w .0) .1 in
+      let w = and-parts (read && isTable t) (leb answerLength (length a)) e in
+      let l : isTable t ≡ true = and-parts read (isTable t) (w .0) .1 in
       record { enough = sym e; table-given = rw l at et; answer-given = ea ∙ sets-front a (saidBytes (said (reply .answer))) answerLength n (leb-true answerLength (length a) (w .1)); faithful = λ y. f }

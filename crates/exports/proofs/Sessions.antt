@@ -13,7 +13,8 @@ use lib.Dec.{leb}
 use lib.ListN.{length, take, drop, set, replicate, length-take}
 use lib.Seq.{sets, take-all, take-at, drop-length}
 use Rattle.text.specs.declared.Text.{Text}
-use Rattle.text.specs.Writing.{shown}
+use Rattle.text.specs.Writing.{shown, lineLength}
+use Rattle.script.specs.Lines.{begunLength}
 use Rattle.script.specs.Feeding.{SessionState, stateHeld}
 use Rattle.script.specs.declared.Session.{Session}
 use Rattle.script.proofs.Session as session
@@ -25,7 +26,7 @@ use Rattle.wire.proofs.Back.{flag-back}
 use Rattle.wire.proofs.Lists.{sets-front, sets-past}
 use Rattle.wire.proofs.Parts.{total, laid-front, from-part}
 use Rattle.exports.specs.Types.{ProcessTable}
-use Rattle.exports.specs.Layout.{begunAt, begunLength, tableAt, sessionLength, lineLength}
+use Rattle.exports.specs.Layout.{begunAt, tableAt, sessionLength}
 use Rattle.exports.specs.Scripts.{stateIn, Stored}
 
 -- a part written behind the first byte

@@ -1,7 +1,8 @@
 -- To be believed. How many bytes an answer and a session take, and where in them each part stands. A part without a name here is one byte, and stands behind the one
 -- before it.
-use Prim.Native.Nat.{suc, _+_}
-use Rattle.script.specs.Lines.{mostBytes}
+use Prim.Native.Nat.{_+_}
+use Rattle.text.specs.Writing.{lineLength}
+use Rattle.script.specs.Lines.{begunLength}
 use Rattle.wire.specs.Layout.{wordLength, messageLength, tableLength}
 use Rattle.exports.specs.Types.{ℕ, _≡_}
 
@@ -19,19 +20,13 @@ answerLength = wordAt + wordLength
 abbrev pub begunAt : ℕ
 begunAt = 2
 
-abbrev pub begunLength : ℕ
-begunLength = suc mostBytes
-
 abbrev pub tableAt : ℕ
 tableAt = begunAt + begunLength
 
 abbrev pub sessionLength : ℕ
 sessionLength = tableAt + tableLength
 
--- what a line of a script prints at most
-abbrev pub lineLength : ℕ
-lineLength = 64
-
--- the numbers that docs/BYTES.md gives
+-- The numbers that docs/BYTES.md gives: where the word of an answer stands, and how long an answer is; where the table of a session stands, and how long a session is. And
+-- the one that rendezvous.h gives: how long a printed line is at most.
 abbrev pub AnswerAndSession : Type 0
-AnswerAndSession = (answerLength ≡ 16) × (sessionLength ≡ 7312)
+AnswerAndSession = (wordAt ≡ 12) × (answerLength ≡ 16) × (tableAt ≡ 203) × (sessionLength ≡ 7312) × (lineLength ≡ 64)

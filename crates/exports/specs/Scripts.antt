@@ -3,10 +3,12 @@ use Prim.Native.Nat.{_/_, min}
 use mathlib.Core.Bool.{not}
 use mathlib.Core.List.{map}
 use lib.Dec.{eqb}
+use Rattle.text.specs.Writing.{lineLength}
+use Rattle.script.specs.Lines.{begunLength}
 use Rattle.script.specs.Feeding.{SessionState, start, tableIf, fed, finished}
 use Rattle.script.specs.Session.{output}
 use Rattle.wire.specs.Reading.{byte, tableOf}
-use Rattle.exports.specs.Layout.{begunAt, begunLength, tableAt, sessionLength, lineLength}
+use Rattle.exports.specs.Layout.{begunAt, tableAt, sessionLength}
 use Rattle.exports.specs.Types.{ℕ, _≡_, Bool, true, false, _&&_, cond, List, [], _∷_, _++_, flatten, length, take, drop, replicate, leb}
 
 -- Any bytes are read as a session: any first byte but 0 is true, and of the begun line only as many bytes are read as there is room for.

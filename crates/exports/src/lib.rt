@@ -21,6 +21,7 @@ mod through;
 
 use answers::give;
 use answers::is_table;
+use scripts::is_session;
 use scripts::put_session;
 use scripts::put_text;
 use scripts::session_in;
@@ -103,7 +104,7 @@ pub extern "C" fn rendezvous_script_feed(
 ) -> bool
     ensures { λ r. ⌜ Feeds (now (state .entry)) (now (piece .entry)) (now (after .entry)) (now (out .entry)) (now (after .exit)) (now (out .exit)) (now (taken .exit)) (now (filled .exit)) r ⌝ }
 {
-    let whole = (layout::SESSION_BYTES <= state.len()) & (layout::SESSION_BYTES <= after.len());
+    let whole = is_session(state) & is_session(after);
     if !whole {
         *taken = 0;
         *filled = 0;
@@ -123,14 +124,15 @@ pub extern "C" fn rendezvous_script_feed(
 pub extern "C" fn rendezvous_script_finish(state: &[u8], out: &mut [u8]) -> usize
     ensures { λ r. ⌜ Finishes (now (state .entry)) (now (out .entry)) (now (out .exit)) r ⌝ }
 {
-    if state.len() < layout::SESSION_BYTES {
+    if !is_session(state) {
         return 0;
     }
     let session = session_in(state);
     put_text(script::finish(session), out)
 }
 
-// Carries how long the bytes of an answer and of a session are.
+// Carries the numbers of these lengths and offsets: of an answer where its word stands and how long it is, of a session where its table
+// stands and how long it is, and how long a printed line is at most.
 pub fn byte_lengths()
     ensures { λ _. ⌜ AnswerAndSession ⌝ }
 {}

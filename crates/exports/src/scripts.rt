@@ -1,7 +1,9 @@
 // A session of the script program between two pieces of its input, in bytes, and what it prints.
 use crate::layout;
+use script::BEGUN_BYTES;
 use script::Session;
 use script::least;
+use text::LINE_BYTES;
 use text::Text;
 use wire::TABLE_BYTES;
 use wire::byte_at;
@@ -15,16 +17,22 @@ ghost use mathlib.Core.Bool.{true, cond};
 ghost use mathlib.Core.List.{_++_};
 ghost use lib.Dec.{leb};
 ghost use lib.ListN.{length, take, drop};
-ghost use Rattle.text.specs.Writing.{shown};
+ghost use Rattle.text.specs.Writing.{shown, lineLength};
 ghost use Rattle.script.specs.Feeding.{stateHeld};
-ghost use Rattle.exports.specs.Layout.{lineLength};
-ghost use Rattle.exports.specs.Scripts.{stateIn, Stored};
+ghost use Rattle.exports.specs.Scripts.{stateIn, isSession, Stored};
+
+// Whether bytes are enough for a session.
+pub fn is_session(bytes: &[u8]) -> bool
+    ensures { λ r. ⌜ r ≡ isSession (now (bytes .entry)) ⌝ }
+{
+    layout::SESSION_BYTES <= bytes.len()
+}
 
 // The session that bytes are read as.
 pub fn session_in(state: &[u8]) -> Session
     ensures { λ r. ⌜ stateHeld r ≡ stateIn (now (state .entry)) ⌝ }
 {
-    let mut bytes = [0u8; layout::BEGUN_BYTES];
+    let mut bytes = [0u8; BEGUN_BYTES];
     put_bytes(&mut bytes, 0, from(state, layout::BEGUN_AT));
     let table = decode(from(state, layout::TABLE_AT));
     Session {
@@ -44,10 +52,10 @@ pub fn put_session(session: Session, out: &mut [u8]) -> bool
     let mut encoded = [0u8; TABLE_BYTES];
     encode(table, &mut encoded);
     // a begun line never holds more bytes than it has room for, whatever a session says
-    let length = least(session.length, layout::BEGUN_BYTES) as u8;
+    let length = least(session.length, BEGUN_BYTES) as u8;
     let head = [flag_byte(session.made), length];
     let bytes = session.bytes;
-    if out.len() < layout::SESSION_BYTES {
+    if !is_session(out) {
         return false;
     }
     put_bytes(out, 0, &head);
@@ -61,8 +69,8 @@ pub fn put_text(text: Text, out: &mut [u8]) -> usize
     ensures { λ r. ⌜ (r ≡ cond (leb lineLength (length (now (out .entry)))) (length (shown text)) 0) × (now (out .exit) ≡ take r (shown text) ++ drop r (now (out .entry))) ⌝ }
 {
     let bytes = text.bytes;
-    let count = least(text.length, layout::LINE_BYTES);
-    if out.len() < layout::LINE_BYTES {
+    let count = least(text.length, LINE_BYTES);
+    if out.len() < LINE_BYTES {
         return 0;
     }
     put_bytes(out, 0, &bytes[..count]);

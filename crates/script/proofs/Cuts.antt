@@ -1,5 +1,5 @@
 -- However the input is cut into pieces, what they print is `output` of the whole.
-use Prim.Native.Nat.{ℕ, suc, _<_}
+use Prim.Native.Nat.{ℕ, _<_}
 use mathlib.Core.Path.{_≡_, refl, sym, ap, _∙_}
 use mathlib.Core.Bool.{Bool, true, false}
 use mathlib.Core.List.{List, [], _∷_, _++_, flatten, append-assoc, append-nil}
@@ -11,7 +11,7 @@ use lib.Seq.{take-all}
 use borrow.Author.Tests.{leb-true, leb-false, lt-leb}
 use Rattle.script.specs.Types.{ProcessTable}
 use Rattle.script.specs.Printing.{refusalText, endOfLine, ended}
-use Rattle.script.specs.Lines.{Ended, unended, linesFrom, mostBytes, lineCommand}
+use Rattle.script.specs.Lines.{Ended, unended, linesFrom, mostBytes, begunLength, lineCommand}
 use Rattle.script.specs.Session.{turn, printedBy, output}
 use Rattle.script.specs.Feeding.{SessionState, start, fed, fedByte, lineEnded, lineGrown, fedPieces, finished, Pieces}
 use Rattle.text.proofs.Capped.{take-again}
@@ -21,33 +21,33 @@ rest : Option ProcessTable → List ℕ → List ℕ → List ℕ
 rest table begun bs = printedBy table (linesFrom begun bs)
 
 -- one byte more than a line may have tells an overlong line
-cut-command : (line : List ℕ) → lineCommand (Ended (take (suc mostBytes) line)) ≡ lineCommand (Ended line)
+cut-command : (line : List ℕ) → lineCommand (Ended (take begunLength line)) ≡ lineCommand (Ended line)
 unfolding lineCommand
 cut-command line = go (leb (length line) mostBytes) refl
   where
-    go : (b : Bool) → leb (length line) mostBytes ≡ b → lineCommand (Ended (take (suc mostBytes) line)) ≡ lineCommand (Ended line)
-    go true t = let h = leb-true (length line) mostBytes t in rw (take-all (suc mostBytes) line (omega arith))
+    go : (b : Bool) → leb (length line) mostBytes ≡ b → lineCommand (Ended (take begunLength line)) ≡ lineCommand (Ended line)
+    go true t = let h = leb-true (length line) mostBytes t in rw (take-all begunLength line (omega arith))
     go false t =
         let h : mostBytes < length line = leb-false (length line) mostBytes t in
-        let g : mostBytes < length (take (suc mostBytes) line) = simp length-take (omega arith) in
-        rw (t, lt-leb (length (take (suc mostBytes) line)) mostBytes g)
+        let g : mostBytes < length (take begunLength line) = simp length-take (omega arith) in
+        rw (t, lt-leb (length (take begunLength line)) mostBytes g)
 
-cut-unended : (begun : List ℕ) → unended (take (suc mostBytes) begun) ≡ unended begun
+cut-unended : (begun : List ℕ) → unended (take begunLength begun) ≡ unended begun
 cut-unended [] = refl
 cut-unended (b ∷ begun) = refl
 
-cut-rest : (table : Option ProcessTable) (begun bs : List ℕ) → rest table (take (suc mostBytes) begun) bs ≡ rest table begun bs
+cut-rest : (table : Option ProcessTable) (begun bs : List ℕ) → rest table (take begunLength begun) bs ≡ rest table begun bs
 unfolding rest linesFrom printedBy
 cut-rest table begun [] = rw (cut-unended begun)
 cut-rest table begun (b ∷ bs) = go (eqb b endOfLine) refl (λ l. cut-rest table l bs)
   where
-    go : (e : Bool) → eqb b endOfLine ≡ e → ((l : List ℕ) → rest table (take (suc mostBytes) l) bs ≡ rest table l bs)
-        → rest table (take (suc mostBytes) begun) (b ∷ bs) ≡ rest table begun (b ∷ bs)
+    go : (e : Bool) → eqb b endOfLine ≡ e → ((l : List ℕ) → rest table (take begunLength l) bs ≡ rest table l bs)
+        → rest table (take begunLength begun) (b ∷ bs) ≡ rest table begun (b ∷ bs)
     go true t more = rw (t, cut-command begun)
     go false t more =
         rw t
-        (sym (more (take (suc mostBytes) begun ++ b ∷ []))
-        ∙ ap (λ (l : List ℕ). rest table l bs) (take-again (suc mostBytes) begun (b ∷ []))
+        (sym (more (take begunLength begun ++ b ∷ []))
+        ∙ ap (λ (l : List ℕ). rest table l bs) (take-again begunLength begun (b ∷ []))
         ∙ more (begun ++ b ∷ []))
 
 -- one byte

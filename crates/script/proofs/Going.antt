@@ -1,5 +1,5 @@
 -- The loop over a piece: what is filled, and what is still to be fed, together make what the whole piece prints.
-use Prim.Native.Nat.{ℕ, suc, _+_, _*_, _≤_, _<_}
+use Prim.Native.Nat.{ℕ, _+_, _*_, _≤_, _<_}
 use mathlib.Core.Path.{_≡_, refl, sym, ap, _∙_}
 use mathlib.Core.List.{List, [], _∷_, _++_, append-assoc, append-nil}
 use mathlib.Core.Option.{Option}
@@ -8,9 +8,10 @@ use native.Mathlib.Omega.{arith}
 use lib.ListN.{length, take, drop, getD, length-append, length-take, length-drop, drop-of-length-le, take-append-drop}
 use lib.Seq.{drop-cons, take-at, drop-at, length-take-le, drop-drop}
 use borrow.Author.Tests.{eq-eqb, ne-eqb}
+use Rattle.text.specs.Writing.{lineLength}
 use Rattle.script.specs.Types.{ProcessTable}
 use Rattle.script.specs.Printing.{endOfLine}
-use Rattle.script.specs.Lines.{Ended, mostBytes, lineCommand}
+use Rattle.script.specs.Lines.{Ended, begunLength, lineCommand}
 use Rattle.script.specs.Session.{Turn, turn}
 use Rattle.script.specs.Feeding.{SessionState, After, andThen, lineEnded, lineGrown, fedByte, fed}
 use Rattle.script.proofs.Turns.{turn-length}
@@ -19,7 +20,7 @@ use Rattle.script.proofs.Turns.{turn-length}
 pub record Going (s₀ : SessionState) (input out₀ : List ℕ) (s : SessionState) (i : ℕ) (out : List ℕ) (filled : ℕ) : Type 0 where
   pub same : andThen (take filled out) (fed s (drop i input)) ≡ fed s₀ input
   pub past : drop filled out ≡ drop filled out₀
-  pub room : filled ≤ 64 * i
+  pub room : filled ≤ lineLength * i
   pub long : length out ≡ length out₀
 
 pub going-start : (s : SessionState) (input out : List ℕ) → Going s input out s 0 out 0
@@ -45,7 +46,7 @@ module _ (s₀ : SessionState) (input out₀ : List ℕ) (s : SessionState) (i :
   by-byte = rw e (one-more s input i h)
 
   -- a byte that goes on with the line
-  pub going-byte : (begun : List ℕ) → (b ≡ endOfLine → ⊥) → begun ≡ take (suc mostBytes) (s .begun ++ b ∷ []) → Going s₀ input out₀ (record { begun = begun; table = s .table }) (i + 1) out filled
+  pub going-byte : (begun : List ℕ) → (b ≡ endOfLine → ⊥) → begun ≡ take begunLength (s .begun ++ b ∷ []) → Going s₀ input out₀ (record { begun = begun; table = s .table }) (i + 1) out filled
   unfolding rest fedByte lineGrown
   going-byte begun n f =
       let grown : fed s (drop i input) ≡ fed (record { begun = begun; table = s .table }) (drop (i + 1) input) = rw f (rw (ne-eqb b endOfLine n) at by-byte) in
@@ -54,12 +55,12 @@ module _ (s₀ : SessionState) (input out₀ : List ℕ) (s : SessionState) (i :
   -- a byte that ends the line
   pub going-line : (text : List ℕ) (table : Option ProcessTable) (out′ : List ℕ) (filled′ : ℕ) → b ≡ endOfLine
       → _≡_ {A = Turn} (record { prints = text; table = table }) (turn (s .table) (lineCommand (Ended (s .begun))))
-      → filled + 64 ≤ length out → filled′ ≡ filled + length text → out′ ≡ take filled out ++ text ++ drop filled′ out
+      → filled + lineLength ≤ length out → filled′ ≡ filled + length text → out′ ≡ take filled out ++ text ++ drop filled′ out
       → Going s₀ input out₀ (record { begun = []; table = table }) (i + 1) out′ filled′
   unfolding rest fedByte lineEnded
   going-line text table out′ filled′ n t r f o =
       let ended : fed s (drop i input) ≡ andThen text (fed (record { begun = []; table = table }) (drop (i + 1) input)) = rw (eq-eqb b endOfLine n, ← t) at by-byte in
-      let short : length text ≤ 64 = rw (← t) at (turn-length (s .table) (lineCommand (Ended (s .begun)))) in
+      let short : length text ≤ lineLength = rw (← t) at (turn-length (s .table) (lineCommand (Ended (s .begun)))) in
       let at : length (take filled out ++ text) ≡ filled′ = simp (length-append, length-take) (omega arith) in
       let taken : take filled′ out′ ≡ take filled out ++ text = rw o (take-at (take filled out ++ text) (drop filled′ out) filled′ at) in
       let dropped : drop filled′ out′ ≡ drop filled′ out = rw o (drop-at (take filled out ++ text) (drop filled′ out) filled′ at) in

@@ -1,4 +1,4 @@
--- Laws of what is printed: no line has more than 64 bytes, so a text keeps all of it.
+-- Laws of what is printed: no line has more bytes than a text keeps, so it keeps all of them.
 use Prim.Native.Nat.{ℕ, _≤_}
 use mathlib.Core.Path.{_≡_, refl, _∙_}
 use mathlib.Core.List.{List, [], _∷_, _++_}
@@ -6,7 +6,7 @@ use mathlib.Core.Option.{Option, some, none}
 use native.Mathlib.Omega.{arith}
 use lib.ListN.{length, length-append}
 use lib.Ieee.{binary32, toBits}
-use Rattle.text.specs.Writing.{capped, decimalText}
+use Rattle.text.specs.Writing.{capped, decimalText, lineLength}
 use Rattle.text.proofs.Capped.{capped-short}
 use Rattle.text.proofs.Printed.{decimal-text-length, whole-text-length, hex-text-length}
 use Rattle.rendezvous.specs.Numbers.{Said, made, ticket, place, same, outcome, movers, refusal}
@@ -59,7 +59,7 @@ number-capped letter n = capped-short (letter ∷ field (decimalText n)) (omega 
 pub letter-capped : (letter : ℕ) {empty one : List ℕ} → empty ≡ [] → one ≡ capped (empty ++ letter ∷ []) → one ≡ letter ∷ []
 letter-capped letter e f = f ∙ rw e (capped-short (letter ∷ []) (omega arith))
 
-pub refusal-length : (k : ℕ) → length (ended (refusalText k)) ≤ 64
+pub refusal-length : (k : ℕ) → length (ended (refusalText k)) ≤ lineLength
 refusal-length k = simp length-append (omega (arith, decimal-text-length k))
 
 pub refusal-capped : (k : ℕ) → capped (ended (refusalText k)) ≡ ended (refusalText k)

@@ -8,6 +8,7 @@ use mathlib.Core.Option.{Option, some, none}
 use native.Mathlib.Omega.{arith}
 use lib.ListN.{length, length-append}
 use Rattle.alternative.specs.Guards.{lent}
+use Rattle.text.specs.Writing.{lineLength}
 use Rattle.command.specs.declared.Kind.{Kind}
 use Rattle.command.specs.declared.Parsed.{Parsed}
 use Rattle.command.specs.InCode.{asParsed}
@@ -155,8 +156,8 @@ pub record Sized (t : ProcessTable) : Type 0 where
   pub records : length (t .processes) ≡ mostProcesses
   pub byte : t .head .n < 256
 
--- a line prints 64 bytes at most
-answered-length : (table : Option ProcessTable) (command : List ℕ) (reply : Reply) → length command ≤ 12 → length (answered table command reply .prints) ≤ 64
+-- a line prints no more bytes than a line may have
+answered-length : (table : Option ProcessTable) (command : List ℕ) (reply : Reply) → length command ≤ 12 → length (answered table command reply .prints) ≤ lineLength
 unfolding answered
 answered-length table command reply h = simp length-append (omega (arith, answer-length command (said (reply .answer)) h))
 
@@ -167,11 +168,11 @@ command-length (Do (Step p)) = number-length (code "s") p
 command-length (Do (Collect p)) = number-length (code "c") p
 command-length Movers = omega arith
 
-by-length : (table : Option ProcessTable) (c : Command) (reply : Option Reply) → length (turnBy table c reply .prints) ≤ 64
+by-length : (table : Option ProcessTable) (c : Command) (reply : Option Reply) → length (turnBy table c reply .prints) ≤ lineLength
 by-length table c none = refusal-length 8
 by-length table c (some reply) = answered-length table (commandText c) reply (command-length c)
 
-pub turn-length : (table : Option ProcessTable) (c : Option Command) → length (turn table c .prints) ≤ 64
+pub turn-length : (table : Option ProcessTable) (c : Option Command) → length (turn table c .prints) ≤ lineLength
 unfolding turn
 turn-length table none = refusal-length 8
 turn-length table (some c) = by-length table c (replyFrom table c)

@@ -1,5 +1,5 @@
 -- To be believed. The program takes its input in pieces, as the reads happen to cut it: what a piece prints, and the claim that the pieces together print `output`.
-use Prim.Native.Nat.{ℕ, suc}
+use Prim.Native.Nat.{ℕ}
 use mathlib.Core.Path.{_≡_}
 use mathlib.Core.Bool.{Bool, cond}
 use mathlib.Core.List.{List, [], _∷_, _++_, flatten}
@@ -8,7 +8,7 @@ use lib.ListN.{take}
 use lib.Dec.{eqb}
 use Rattle.script.specs.Types.{ProcessTable, Session}
 use Rattle.script.specs.Printing.{endOfLine}
-use Rattle.script.specs.Lines.{Ended, linesFrom, mostBytes, lineCommand}
+use Rattle.script.specs.Lines.{Ended, linesFrom, begunLength, lineCommand}
 use Rattle.script.specs.Session.{turn, printedBy, output}
 
 -- Between two pieces: the begun line, and the table. Of an overlong line one byte more than it may have is held, which shows that it is one.
@@ -39,7 +39,7 @@ unfoldable pub lineEnded : SessionState → After
 lineEnded s = let now = turn (s .table) (lineCommand (Ended (s .begun))) in record { prints = now .prints; state = record { begun = []; table = now .table } }
 
 unfoldable pub lineGrown : SessionState → ℕ → After
-lineGrown s b = record { prints = []; state = record { begun = take (suc mostBytes) (s .begun ++ b ∷ []); table = s .table } }
+lineGrown s b = record { prints = []; state = record { begun = take begunLength (s .begun ++ b ∷ []); table = s .table } }
 
 unfoldable pub fedByte : SessionState → ℕ → After
 fedByte s b = cond (eqb b endOfLine) (lineEnded s) (lineGrown s b)

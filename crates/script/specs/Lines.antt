@@ -1,5 +1,5 @@
 -- To be believed. Document 01, "The script program": the lines of an input, and the command of a line; `none` where the line is malformed.
-use Prim.Native.Nat.{ℕ}
+use Prim.Native.Nat.{ℕ, suc}
 use mathlib.Core.Bool.{cond}
 use mathlib.Core.List.{List, [], _∷_, _++_}
 use mathlib.Core.Option.{Option, none}
@@ -26,6 +26,10 @@ linesFrom begun (b ∷ bs) = cond (eqb b endOfLine) (Ended begun ∷ linesFrom [
 -- "at most 200 bytes before it"
 abbrev pub mostBytes : ℕ
 mostBytes = 200
+
+-- the room for a begun line: one byte more than a line may have tells an overlong one
+abbrev pub begunLength : ℕ
+begunLength = suc mostBytes
 
 -- "Anything else, an overlong line (skipped to its end), .. or an unended last line gives 8."
 unfoldable pub lineCommand : Line → Option Command

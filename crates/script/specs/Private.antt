@@ -5,7 +5,7 @@ use mathlib.Core.Bool.{Bool, true, false, _||_, cond}
 use mathlib.Core.List.{List, [], _∷_, _++_}
 use lib.ListN.{length, take, drop}
 use lib.Dec.{leb}
-use Rattle.text.specs.Writing.{decimalText}
+use Rattle.text.specs.Writing.{decimalText, lineLength}
 use Rattle.command.specs.declared.Kind.{Kind}
 use Rattle.command.specs.declared.Parsed.{Parsed}
 use Rattle.command.specs.InCode.{plain}
@@ -53,12 +53,12 @@ lineAct Kind.Movers p list formed h x q y = alone Answer.Unchanged h x
 unfoldable pub newReply : ProcessTable → ℕ → Reply
 newReply t n = let reply = create n in record { answer = reply .answer; table = cond (isRefused (reply .answer)) t (reply .table) }
 
--- a text put into an output at index `at`, and the index after it; where there is no room for 64 bytes, nothing is
+-- a text put into an output at index `at`, and the index after it; where there is no room for a line, nothing is
 abbrev pub putAt : ℕ → List ℕ → List ℕ → List ℕ
-putAt at text out = cond (leb (at + 64) (length out)) (take at out ++ text ++ drop (at + length text) out) out
+putAt at text out = cond (leb (at + lineLength) (length out)) (take at out ++ text ++ drop (at + length text) out) out
 
 abbrev pub putEnd : ℕ → List ℕ → List ℕ → ℕ
-putEnd at text out = cond (leb (at + 64) (length out)) (at + length text) at
+putEnd at text out = cond (leb (at + lineLength) (length out)) (at + length text) at
 
 -- the line of a command's kind and number, and its answer
 unfoldable pub lineText : Kind → ℕ → Answer → List ℕ

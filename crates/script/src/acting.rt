@@ -1,5 +1,4 @@
 // What a line's command does to the table.
-use crate::lines::is_refused;
 use command::Kind;
 use command::Parsed;
 use process::Process;
@@ -13,7 +12,8 @@ use rendezvous::collect_act;
 use rendezvous::offer_act;
 use rendezvous::step_act;
 ghost use mathlib.Core.Path.{_≡_};
-ghost use Rattle.script.specs.Private.{isMovers, lineAct, newReply};
+ghost use Rattle.script.specs.Session.{isRefused};
+ghost use Rattle.script.specs.Private.{lineAct, newReply};
 
 // A call of one process, from what was read of the table. A command of another kind does nothing here.
 pub fn line_act(command: Parsed, formed: bool, head: Head, x: Process, q: u8, y: Process) -> Act
@@ -32,17 +32,18 @@ pub fn line_act(command: Parsed, formed: bool, head: Head, x: Process, q: u8, y:
     }
 }
 
-// Whether a command asks for the movers.
-pub fn is_movers(kind: Kind) -> bool
-    ensures { λ r. ⌜ r ≡ isMovers kind ⌝ }
+// Whether a call was turned away.
+pub fn is_refused(answer: Answer) -> bool
+    ensures { λ r. ⌜ r ≡ isRefused answer ⌝ }
 {
-    match kind {
-        Kind::Movers => true,
-        Kind::New => false,
-        Kind::Malformed => false,
-        Kind::Offer => false,
-        Kind::Step => false,
-        Kind::Collect => false,
+    match answer {
+        Answer::Refused(_) => true,
+        Answer::Made => false,
+        Answer::Offered(_) => false,
+        Answer::Moved(_) => false,
+        Answer::Unchanged => false,
+        Answer::Collected(_, _, _) => false,
+        Answer::Runnable(_) => false,
     }
 }
 

@@ -4,12 +4,12 @@
 use crate::Fed;
 use crate::Session;
 use crate::acting::created;
-use crate::acting::is_movers;
+use crate::acting::is_refused;
 use crate::acting::line_act;
-use crate::lines::MOST_BYTES;
+use crate::lines::BEGUN_BYTES;
 use crate::lines::heard;
+use crate::lines::is_movers;
 use crate::lines::is_new;
-use crate::lines::is_refused;
 use crate::lines::line_command;
 use crate::output::least;
 use crate::output::put;
@@ -20,19 +20,20 @@ use rendezvous::ProcessTable;
 use rendezvous::form_end;
 use rendezvous::form_more;
 use rendezvous::form_start;
+use text::LINE_BYTES;
 use text::Text;
 ghost use Prim.Native.Nat.{_/_, min};
 ghost use mathlib.Core.Path.{_≡_};
 ghost use mathlib.Core.List.{_++_};
 ghost use lib.ListN.{length, take, drop};
-ghost use Rattle.text.specs.Writing.{shown};
+ghost use Rattle.text.specs.Writing.{shown, lineLength};
 ghost use Rattle.script.specs.Feeding.{start, stateHeld, fed, finished};
 
 // A session before its first byte. The table of no process stands in for the one that is not made yet.
 pub fn start() -> Session
     ensures { λ r. ⌜ stateHeld r ≡ start ⌝ }
 {
-    let bytes = [0u8; 201];
+    let bytes = [0u8; BEGUN_BYTES];
     let reply = ProcessTable::create(0);
     let table = reply.table;
     Session {
@@ -43,10 +44,11 @@ pub fn start() -> Session
     }
 }
 
-// Feeds a piece of the input, and writes what its lines print to the start of `out`. No line prints more than 64 bytes, so as many
-// bytes are taken as `out` has room for if each of them ends a line. The session may hold any length: past its 201 bytes it counts as 201.
+// Feeds a piece of the input, and writes what its lines print to the start of `out`. No line prints more than `LINE_BYTES`, so as many
+// bytes are taken as `out` has room for if each of them ends a line. The session may hold any length: one past `BEGUN_BYTES` counts as
+// `BEGUN_BYTES`.
 pub fn feed(session: Session, piece: &[u8], out: &mut [u8]) -> Fed
-    ensures taken { λ r. ⌜ r .taken ≡ min (length (now (piece .entry))) (length (now (out .entry)) / 64) ⌝ }
+    ensures taken { λ r. ⌜ r .taken ≡ min (length (now (piece .entry))) (length (now (out .entry)) / lineLength) ⌝ }
     ensures filled { λ r. ⌜ r .filled ≡ length (fed (stateHeld session) (take (r .taken) (now (piece .entry))) .prints) ⌝ }
     ensures session { λ r. ⌜ stateHeld (r .session) ≡ fed (stateHeld session) (take (r .taken) (now (piece .entry))) .state ⌝ }
     ensures written { λ r. ⌜ now (out .exit) ≡ fed (stateHeld session) (take (r .taken) (now (piece .entry))) .prints ++ drop (r .filled) (now (out .entry)) ⌝ }
@@ -54,8 +56,8 @@ pub fn feed(session: Session, piece: &[u8], out: &mut [u8]) -> Fed
     let mut made = session.made;
     let mut table = session.table;
     let mut bytes = session.bytes;
-    let mut held = least(session.length, MOST_BYTES + 1);
-    let taken = least(piece.len(), out.len() / 64);
+    let mut held = least(session.length, BEGUN_BYTES);
+    let taken = least(piece.len(), out.len() / LINE_BYTES);
     let mut filled: usize = 0;
     let mut i: usize = 0;
     while i < taken {
@@ -63,7 +65,6 @@ pub fn feed(session: Session, piece: &[u8], out: &mut [u8]) -> Fed
         i = i + 1;
         if b == b'\n' {
             let command = heard(made, line_command(&bytes[..held]));
-            let kind = command.kind;
             // what a call reads: whether the table is well-formed, and the records of its process and of the partner
             let head = table.head;
             let mut form = form_start(head);
@@ -84,6 +85,7 @@ pub fn feed(session: Session, piece: &[u8], out: &mut [u8]) -> Fed
             let act = line_act(command, form_end(form, head), head, x, q, y);
             // what it does
             if act.told {
+                // Read anew: y would be held, and so copied, across the rule.
                 let partner = table.processes[there];
                 let signal = act.signal;
                 table.processes[there] = partner.told(act.accepting, signal);
@@ -93,18 +95,18 @@ pub fn feed(session: Session, piece: &[u8], out: &mut [u8]) -> Fed
             let mut answer = act.answer;
             table.processes[at] = own;
             table.head = after;
-            if is_new(kind) {
+            if is_new(command) {
                 let reply = created(table, command.number);
                 answer = reply.answer;
                 table = reply.table;
                 made = made | !is_refused(answer);
-            } else if is_movers(kind) {
+            } else if is_movers(command) {
                 let reply = table.runnable();
                 answer = reply.answer;
             }
-            filled = put(out, filled, printed_line(kind, command.number, answer));
+            filled = put(out, filled, printed_line(command, answer));
             held = 0;
-        } else if held <= MOST_BYTES {
+        } else if held < BEGUN_BYTES {
             bytes[held] = b;
             held = held + 1;
         }

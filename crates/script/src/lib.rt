@@ -12,6 +12,7 @@ mod printing;
 pub use feeding::feed;
 pub use feeding::finish;
 pub use feeding::start;
+pub use lines::BEGUN_BYTES;
 pub use output::least;
 
 // A session between two pieces of its input. `table` counts where `made` says so. The first `length` bytes of `bytes` are the begun
@@ -19,7 +20,7 @@ pub use output::least;
 pub struct Session {
     pub made: bool,
     pub length: usize,
-    pub bytes: [u8; 201],
+    pub bytes: [u8; BEGUN_BYTES],
     pub table: ProcessTable,
 }
 

@@ -3,15 +3,16 @@ use command::Kind;
 use command::Parsed;
 use command::parse;
 use command::plain_command;
-use rendezvous::Answer;
 ghost use mathlib.Core.Path.{_≡_};
 ghost use Rattle.command.specs.InCode.{asParsed};
 ghost use Rattle.script.specs.Lines.{Line, lineCommand};
-ghost use Rattle.script.specs.Session.{isRefused};
-ghost use Rattle.script.specs.Private.{isNew, heard};
+ghost use Rattle.script.specs.Private.{isNew, isMovers, heard};
 
 // The most bytes that a line may have.
 pub const MOST_BYTES: usize = 200;
+
+// The room for a begun line: one byte more than a line may have tells an overlong one.
+pub const BEGUN_BYTES: usize = MOST_BYTES + 1;
 
 // The command of a line that has ended.
 pub fn line_command(line: &[u8]) -> Parsed
@@ -24,9 +25,10 @@ pub fn line_command(line: &[u8]) -> Parsed
 }
 
 // Whether a command makes a table.
-pub fn is_new(kind: Kind) -> bool
-    ensures { λ r. ⌜ r ≡ isNew kind ⌝ }
+pub fn is_new(command: Parsed) -> bool
+    ensures { λ r. ⌜ r ≡ isNew (command .kind) ⌝ }
 {
+    let kind = command.kind;
     match kind {
         Kind::New => true,
         Kind::Malformed => false,
@@ -37,28 +39,27 @@ pub fn is_new(kind: Kind) -> bool
     }
 }
 
+// Whether a command asks for the movers.
+pub fn is_movers(command: Parsed) -> bool
+    ensures { λ r. ⌜ r ≡ isMovers (command .kind) ⌝ }
+{
+    let kind = command.kind;
+    match kind {
+        Kind::Movers => true,
+        Kind::New => false,
+        Kind::Malformed => false,
+        Kind::Offer => false,
+        Kind::Step => false,
+        Kind::Collect => false,
+    }
+}
+
 // A command as it counts: before a table was made, all but `n` are malformed.
 pub fn heard(made: bool, command: Parsed) -> Parsed
     ensures { λ r. ⌜ r ≡ heard made command ⌝ }
 {
-    let kind = command.kind;
-    if made | is_new(kind) {
+    if made | is_new(command) {
         return command;
     }
     plain_command(Kind::Malformed, 0)
-}
-
-// Whether a call was turned away.
-pub fn is_refused(answer: Answer) -> bool
-    ensures { λ r. ⌜ r ≡ isRefused answer ⌝ }
-{
-    match answer {
-        Answer::Refused(_) => true,
-        Answer::Made => false,
-        Answer::Offered(_) => false,
-        Answer::Moved(_) => false,
-        Answer::Unchanged => false,
-        Answer::Collected(_, _, _) => false,
-        Answer::Runnable(_) => false,
-    }
 }

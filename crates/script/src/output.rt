@@ -1,4 +1,5 @@
 // A text put into the output.
+use text::LINE_BYTES;
 use text::Text;
 ghost use Prim.Native.Nat.{min};
 ghost use mathlib.Core.Path.{_≡_};
@@ -12,20 +13,20 @@ pub fn least(a: usize, b: usize) -> usize
     if a <= b { a } else { b }
 }
 
-// Writes a text into the output at index `at`, and gives the index after it. Where there is no room for 64 bytes, the most that a text
-// has, nothing is written.
+// Writes a text into the output at index `at`, and gives the index after it. Where there is no room for `LINE_BYTES`, the most that
+// a text has, nothing is written.
 pub fn put(out: &mut [u8], at: usize, text: Text) -> usize
     ensures { λ r. ⌜ r ≡ putEnd at (shown text) (now (out .entry)) ⌝ }
     ensures { λ r. ⌜ now (out .exit) ≡ putAt at (shown text) (now (out .entry)) ⌝ }
 {
-    if out.len() < 64 {
+    if out.len() < LINE_BYTES {
         return at;
     }
-    if out.len() - 64 < at {
+    if out.len() - LINE_BYTES < at {
         return at;
     }
     let bytes = text.bytes;
-    let count = least(text.length, 64);
+    let count = least(text.length, LINE_BYTES);
     let mut k: usize = 0;
     while k < count {
         out[at + k] = bytes[k];

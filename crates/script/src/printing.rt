@@ -3,6 +3,7 @@ use alternative::Found;
 use alternative::Message;
 use alternative::bits_of;
 use command::Kind;
+use command::Parsed;
 use process::Place;
 use rendezvous::Answer;
 use text::Text;
@@ -86,9 +87,11 @@ fn answer_line(command: Text, answer: Answer) -> Text
 }
 
 // The line of a command of any kind. A malformed one has no answer.
-pub fn printed_line(kind: Kind, number: u8, answer: Answer) -> Text
-    ensures { λ r. ⌜ shown r ≡ lineText kind number answer ⌝ }
+pub fn printed_line(command: Parsed, answer: Answer) -> Text
+    ensures { λ r. ⌜ shown r ≡ lineText (command .kind) (command .number) answer ⌝ }
 {
+    let kind = command.kind;
+    let number = command.number;
     match kind {
         Kind::Malformed => malformed_line(),
         Kind::New => answer_line(command_text(b'n', number), answer),

@@ -1,4 +1,4 @@
--- One turn of the loop, and the turns so far.
+-- One pass of the loop, and the passes so far.
 use Prim.Native.Nat.{ℕ, zero, suc, _+_, _-_, _≤_, _<_}
 use mathlib.Core.Path.{_≡_, refl, sym, _∙_, subst}
 use mathlib.Core.Bool.{Bool, true, false, cond}
@@ -15,10 +15,10 @@ use mir.Facts.{toZ-ofZ}
 use Rattle.io.specs.Counts.{clamped}
 use Rattle.libc.specs.Io.{Moved}
 use Rattle.script.specs.Feeding.{SessionState, stateHeld, fed, fedPieces}
+use Rattle.script.proofs.Lists.{take-most}
 use Rattle.script_main.specs.declared.Status.the-variants.{Going, Ended, Unreadable, Endless}
 use Rattle.script_main.specs.declared.Progress.{Progress}
-use Rattle.script_main.specs.Turns.{Turn, count, pieceOf, afterRead, afterWrite, isGoing, statusOf, pieces, statusAfter, AllTurns}
-use Rattle.script_main.proofs.Whole.{take-most}
+use Rattle.script_main.specs.Turns.{Pass, count, pieceOf, afterRead, afterWrite, isGoing, statusOf, pieces, statusAfter, AllPasses}
 
 -- what `read` returned, by its sign
 pub read-failed : (z : ℤ) → ltZ z (pos 0) ≡ true → Unreadable ≡ afterRead z
@@ -42,41 +42,41 @@ read-some (negsuc n) e h = absurd (subst T e tt)
 pub passed-on : (z : ℤ) → mag z < 9223372036854775808 → toZ w64 (ofZ w64 z) ≡ z
 passed-on z h = toZ-ofZ {w = w64} {z = z} record { sfits = h }
 
--- the turn of a read, by what libc promises of it
-abbrev pub turnOf : (got : ℤ) (lent : ℕ) (buffer : List ℕ) → length buffer ≡ lent → Moved lent got → Bool → Turn
-turnOf got lent buffer l m written = record { got = got; buffer = buffer; written = written; moved = subst (λ (n : ℕ). Moved n got) (sym l) m }
+-- the pass of a read, by what libc promises of it
+abbrev pub passOf : (got : ℤ) (lent : ℕ) (buffer : List ℕ) → length buffer ≡ lent → Moved lent got → Bool → Pass
+passOf got lent buffer l m written = record { got = got; buffer = buffer; written = written; moved = subst (λ (n : ℕ). Moved n got) (sym l) m }
 
 -- the bytes that were counted are those that were read
-counted : (t : Turn) → take (clamped (t .got) (length (t .buffer))) (t .buffer) ≡ pieceOf t
+counted : (p : Pass) → take (clamped (p .got) (length (p .buffer))) (p .buffer) ≡ pieceOf p
 unfolding pieceOf
-counted t = go (t .got)
+counted p = go (p .got)
   where
-    go : (z : ℤ) → take (clamped z (length (t .buffer))) (t .buffer) ≡ take (count z) (t .buffer)
-    go (pos n) = take-most n (t .buffer)
+    go : (z : ℤ) → take (clamped z (length (p .buffer))) (p .buffer) ≡ take (count z) (p .buffer)
+    go (pos n) = take-most (p .buffer) n (length (p .buffer)) refl
     go (negsuc n) = refl
 
-pub counted-fed : (s : SessionState) (t : Turn) (n : ℕ) → n ≡ clamped (t .got) (length (t .buffer)) → fed s (take n (t .buffer)) .state ≡ fed s (pieceOf t) .state
-counted-fed s t n e = rw (e, counted t)
+pub counted-fed : (s : SessionState) (p : Pass) (n : ℕ) → n ≡ clamped (p .got) (length (p .buffer)) → fed s (take n (p .buffer)) .state ≡ fed s (pieceOf p) .state
+counted-fed s p n e = rw (e, counted p)
 
--- a turn whose read does not go on feeds nothing
-pub turn-stops : (s : SessionState) (t : Turn) → isGoing (afterRead (t .got)) ≡ false → (afterRead (t .got) ≡ statusOf t) × (s ≡ fed s (pieceOf t) .state)
+-- a pass whose read does not go on feeds nothing
+pub pass-stops : (s : SessionState) (p : Pass) → isGoing (afterRead (p .got)) ≡ false → (afterRead (p .got) ≡ statusOf p) × (s ≡ fed s (pieceOf p) .state)
 unfolding statusOf pieceOf afterRead fed
-turn-stops s t e = (rw e, go (t .got) e)
+pass-stops s p e = (rw e, go (p .got) e)
   where
-    go : (z : ℤ) → isGoing (afterRead z) ≡ false → s ≡ fed s (take (count z) (t .buffer)) .state
+    go : (z : ℤ) → isGoing (afterRead z) ≡ false → s ≡ fed s (take (count z) (p .buffer)) .state
     go (pos zero) e = refl
     go (pos (suc n)) e = absurd (subst T e tt)
     go (negsuc n) e = refl
 
 -- where it goes on, the write decides
-pub turn-goes : (t : Turn) → isGoing (afterRead (t .got)) ≡ true → afterWrite (afterRead (t .got)) (t .written) ≡ statusOf t
+pub pass-goes : (p : Pass) → isGoing (afterRead (p .got)) ≡ true → afterWrite (afterRead (p .got)) (p .written) ≡ statusOf p
 unfolding statusOf
-turn-goes t e = rw e
+pass-goes p e = rw e
 
--- a turn does not say that there were too many
-not-endless : (t : Turn) → statusOf t ≡ Endless → ⊥
+-- a pass does not say that there were too many
+not-endless : (p : Pass) → statusOf p ≡ Endless → ⊥
 unfolding statusOf afterRead afterWrite
-not-endless t = go (t .got) (t .written)
+not-endless p = go (p .got) (p .written)
   where
     go : (z : ℤ) (written : Bool) → cond (isGoing (afterRead z)) (afterWrite (afterRead z) written) (afterRead z) ≡ Endless → ⊥
     go (pos zero) written e = let z : _≡_ {A = ℕ} 0 1 = cc in omega arith
@@ -84,57 +84,57 @@ not-endless t = go (t .got) (t .written)
     go (pos (suc n)) false e = let z : _≡_ {A = ℕ} 0 1 = cc in omega arith
     go (negsuc n) written e = let z : _≡_ {A = ℕ} 0 1 = cc in omega arith
 
--- The turns so far, after which `left` more may follow: whatever follows them, goes on from here.
+-- The passes so far, after which `left` more may follow: whatever follows them, goes on from here.
 pub record SoFar (s here : SessionState) (left : ℕ) : Type 0 where
-  pub turns : List Turn
-  pub counted : length turns + left ≡ 18446744073709551615
-  pub status : (ts : List Turn) → statusAfter (turns ++ ts) ≡ statusAfter ts
-  pub state : (ts : List Turn) → fedPieces s (pieces (turns ++ ts)) .state ≡ fedPieces here (pieces ts) .state
+  pub passes : List Pass
+  pub counted : length passes + left ≡ 18446744073709551615
+  pub status : (ps : List Pass) → statusAfter (passes ++ ps) ≡ statusAfter ps
+  pub state : (ps : List Pass) → fedPieces s (pieces (passes ++ ps)) .state ≡ fedPieces here (pieces ps) .state
 
 pub none-yet : (s : SessionState) → SoFar s s 18446744073709551615
-none-yet s = record { turns = []; counted = refl; status = λ ts. refl; state = λ ts. refl }
+none-yet s = record { passes = []; counted = refl; status = λ ps. refl; state = λ ps. refl }
 
--- what a turn adds, by whether it goes on
-status-goes : (t : Turn) (ts : List Turn) → isGoing (statusOf t) ≡ true → statusAfter (t ∷ ts) ≡ statusAfter ts
+-- what a pass adds, by whether it goes on
+status-goes : (p : Pass) (ps : List Pass) → isGoing (statusOf p) ≡ true → statusAfter (p ∷ ps) ≡ statusAfter ps
 unfolding statusAfter
-status-goes t ts e = rw e
+status-goes p ps e = rw e
 
-status-stops : (t : Turn) (ts : List Turn) → isGoing (statusOf t) ≡ false → statusAfter (t ∷ ts) ≡ statusOf t
+status-stops : (p : Pass) (ps : List Pass) → isGoing (statusOf p) ≡ false → statusAfter (p ∷ ps) ≡ statusOf p
 unfolding statusAfter
-status-stops t ts e = rw e
+status-stops p ps e = rw e
 
-state-goes : (s : SessionState) (t : Turn) (ts : List Turn) → isGoing (statusOf t) ≡ true
-    → fedPieces s (pieces (t ∷ ts)) .state ≡ fedPieces (fed s (pieceOf t) .state) (pieces ts) .state
+state-goes : (s : SessionState) (p : Pass) (ps : List Pass) → isGoing (statusOf p) ≡ true
+    → fedPieces s (pieces (p ∷ ps)) .state ≡ fedPieces (fed s (pieceOf p) .state) (pieces ps) .state
 unfolding pieces fedPieces
-state-goes s t ts e = rw e
+state-goes s p ps e = rw e
 
-state-stops : (s : SessionState) (t : Turn) (ts : List Turn) → isGoing (statusOf t) ≡ false → fedPieces s (pieces (t ∷ ts)) .state ≡ fed s (pieceOf t) .state
+state-stops : (s : SessionState) (p : Pass) (ps : List Pass) → isGoing (statusOf p) ≡ false → fedPieces s (pieces (p ∷ ps)) .state ≡ fed s (pieceOf p) .state
 unfolding pieces fedPieces
-state-stops s t ts e = rw e
+state-stops s p ps e = rw e
 
 module _ (s here : SessionState) (left : ℕ) (so-far : SoFar s here left) where
-  pub one-more : (t : Turn) (after : SessionState) → isGoing (statusOf t) ≡ true → after ≡ fed here (pieceOf t) .state → 0 < left → SoFar s after (left - 1)
-  one-more t after e a h = record {
-    turns = so-far .turns ++ t ∷ [];
+  pub one-more : (p : Pass) (after : SessionState) → isGoing (statusOf p) ≡ true → after ≡ fed here (pieceOf p) .state → 0 < left → SoFar s after (left - 1)
+  one-more p after e a h = record {
+    passes = so-far .passes ++ p ∷ [];
     counted = rw length-append (omega (arith, so-far .counted));
-    status = λ ts. rw append-assoc (so-far .status (t ∷ ts) ∙ status-goes t ts e);
-    state = λ ts. rw (append-assoc, a) (so-far .state (t ∷ ts) ∙ state-goes here t ts e);
+    status = λ ps. rw append-assoc (so-far .status (p ∷ ps) ∙ status-goes p ps e);
+    state = λ ps. rw (append-assoc, a) (so-far .state (p ∷ ps) ∙ state-goes here p ps e);
   }
 
-  pub stopped : (r : Progress) (t : Turn) → isGoing (r .status) ≡ false → r .status ≡ statusOf t → stateHeld (r .session) ≡ fed here (pieceOf t) .state → AllTurns s r
-  stopped r t e p a =
-      let g : isGoing (statusOf t) ≡ false = rw p at e in (
-        so-far .turns ++ t ∷ [],
-        p ∙ sym (so-far .status (t ∷ []) ∙ status-stops t [] g),
-        a ∙ sym (so-far .state (t ∷ []) ∙ state-stops here t [] g),
-        λ q. absurd (not-endless t (sym p ∙ q)),
+  pub stopped : (r : Progress) (p : Pass) → isGoing (r .status) ≡ false → r .status ≡ statusOf p → stateHeld (r .session) ≡ fed here (pieceOf p) .state → AllPasses s r
+  stopped r p e is a =
+      let g : isGoing (statusOf p) ≡ false = rw is at e in (
+        so-far .passes ++ p ∷ [],
+        is ∙ sym (so-far .status (p ∷ []) ∙ status-stops p [] g),
+        a ∙ sym (so-far .state (p ∷ []) ∙ state-stops here p [] g),
+        λ q. absurd (not-endless p (sym is ∙ q)),
       )
 
-  pub used-up : (r : Progress) → r .status ≡ Endless → stateHeld (r .session) ≡ here → left ≤ 0 → AllTurns s r
+  pub used-up : (r : Progress) → r .status ≡ Endless → stateHeld (r .session) ≡ here → left ≤ 0 → AllPasses s r
   unfolding statusAfter pieces fedPieces
-  used-up r p a h = (
-    so-far .turns ++ [],
-    p ∙ sym (so-far .status []),
+  used-up r is a h = (
+    so-far .passes ++ [],
+    is ∙ sym (so-far .status []),
     a ∙ sym (so-far .state []),
     λ q. rw append-nil (omega (arith, so-far .counted)),
   )

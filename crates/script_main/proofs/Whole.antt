@@ -1,27 +1,15 @@
--- Parts of a list that are the whole.
+-- A piece that is fed whole.
 use Prim.Native.Nat.{ℕ, _*_, _/_, _≤_, min}
-use mathlib.Core.Path.{_≡_, refl, sym, _∙_}
-use mathlib.Core.Bool.{Bool, true, false}
+use mathlib.Core.Path.{_≡_, sym}
 use mathlib.Core.List.{List, _++_}
 use native.Mathlib.Omega.{arith}
-use lib.Dec.{leb}
 use lib.ListN.{length, take, drop, length-append}
-use lib.Seq.{take-all, take-length, take-at}
-use borrow.Author.Tests.{leb-true, leb-false}
+use lib.Seq.{take-all, take-at}
+use Rattle.text.specs.Writing.{lineLength}
 use Rattle.script.specs.Feeding.{SessionState, fed}
 
--- no more can be taken than there is
-pub take-most : (n : ℕ) (l : List ℕ) → take (min n (length l)) l ≡ take n l
-take-most n l = go (leb n (length l)) refl
-  where
-    go : (b : Bool) → leb n (length l) ≡ b → take (min n (length l)) l ≡ take n l
-    go true t = let h : min n (length l) ≡ n = omega (arith, leb-true n (length l) t) in rw h
-    go false t =
-        let h : min n (length l) ≡ length l = omega (arith, leb-false n (length l) t) in
-        rw h (take-length l ∙ sym (take-all n l (omega (arith, leb-false n (length l) t))))
-
 -- Where the output has room for what a piece prints, all of the piece is fed.
-pub fed-whole : (s : SessionState) (piece out₀ out : List ℕ) (taken filled : ℕ) (after : SessionState) → 64 * length piece ≤ length out₀ → taken ≡ min (length piece) (length out₀ / 64)
+pub fed-whole : (s : SessionState) (piece out₀ out : List ℕ) (taken filled : ℕ) (after : SessionState) → lineLength * length piece ≤ length out₀ → taken ≡ min (length piece) (length out₀ / lineLength)
     → filled ≡ length (fed s (take taken piece) .prints) → after ≡ fed s (take taken piece) .state → out ≡ fed s (take taken piece) .prints ++ drop filled out₀
     → (after ≡ fed s piece .state) × ((take filled out ≡ fed s piece .prints) × (filled ≤ length out))
 fed-whole s piece out₀ out taken filled after h t f a o =

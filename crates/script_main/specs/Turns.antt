@@ -1,6 +1,6 @@
 -- To be believed. What the program makes of what the operating system answers. Of `read` and `write` the language's contracts say how many bytes they moved, and nothing
--- of which bytes those were. So a turn of the program's loop is what the system answered in it, and the definitions say how the program goes on. The contracts say that
--- some turns explain where the program stands: that they are those it had is to be read in main.rt.
+-- of which bytes those were. So a pass of the program's loop is what the system answered in it, and the definitions say how the program goes on. The contracts say that
+-- some passes explain where the program stands: that they are those it had is to be read in main.rt.
 use Prim.Native.Nat.{ℕ, zero, suc}
 use mathlib.Core.Path.{_≡_}
 use mathlib.Core.Bool.{Bool, true, false, cond}
@@ -15,7 +15,7 @@ use Rattle.script_main.specs.declared.Status.the-variants.{Going, Ended,
 use Rattle.script_main.specs.declared.Progress.{Progress}
 
 -- what `read` returned, the buffer after it, and whether all that the piece prints was written; libc promises that `read` returns -1, or no more than the buffer has
-pub record Turn : Type 0 where
+pub record Pass : Type 0 where
   pub got : ℤ
   pub buffer : List ℕ
   pub written : Bool
@@ -26,8 +26,8 @@ abbrev pub count : ℤ → ℕ
 count (pos n) = n
 count (negsuc n) = 0
 
-unfoldable pub pieceOf : Turn → List ℕ
-pieceOf t = take (count (t .got)) (t .buffer)
+unfoldable pub pieceOf : Pass → List ℕ
+pieceOf p = take (count (p .got)) (p .buffer)
 
 -- a negative answer says that the read failed, 0 that the input has ended
 unfoldable pub afterRead : ℤ → Status
@@ -54,27 +54,27 @@ isEnded Unwritable = false
 isEnded Endless = false
 
 -- where the read does not go on, nothing is written
-unfoldable pub statusOf : Turn → Status
-statusOf t = let read = afterRead (t .got) in cond (isGoing read) (afterWrite read (t .written)) read
+unfoldable pub statusOf : Pass → Status
+statusOf p = let read = afterRead (p .got) in cond (isGoing read) (afterWrite read (p .written)) read
 
--- the pieces that turns read, up to the first that does not go on, and how that one ends; where all go on, there were too many
-unfoldable pub pieces : List Turn → List (List ℕ)
+-- the pieces that passes read, up to the first that does not go on, and how that one ends; where all go on, there were too many
+unfoldable pub pieces : List Pass → List (List ℕ)
 pieces [] = []
-pieces (t ∷ ts) = pieceOf t ∷ cond (isGoing (statusOf t)) (pieces ts) []
+pieces (p ∷ ps) = pieceOf p ∷ cond (isGoing (statusOf p)) (pieces ps) []
 
-unfoldable pub statusAfter : List Turn → Status
+unfoldable pub statusAfter : List Pass → Status
 statusAfter [] = Endless
-statusAfter (t ∷ ts) = cond (isGoing (statusOf t)) (statusAfter ts) (statusOf t)
+statusAfter (p ∷ ps) = cond (isGoing (statusOf p)) (statusAfter ps) (statusOf p)
 
--- One turn, which left this buffer, brings the program from a state to here.
-abbrev pub OneTurn : SessionState → List ℕ → Progress → Type 0
-OneTurn s buffer here = (t : Turn) × (t .buffer ≡ buffer) × (here .status ≡ statusOf t) × (stateHeld (here .session) ≡ fed s (pieceOf t) .state)
+-- One pass, which left this buffer, brings the program from a state to here.
+abbrev pub OnePass : SessionState → List ℕ → Progress → Type 0
+OnePass s buffer here = (p : Pass) × (p .buffer ≡ buffer) × (here .status ≡ statusOf p) × (stateHeld (here .session) ≡ fed s (pieceOf p) .state)
 
--- Turns bring it from a state to here. Too many are no fewer than 64 bits can count.
-abbrev pub AllTurns : SessionState → Progress → Type 0
-AllTurns s here =
-    (ts : List Turn) × (here .status ≡ statusAfter ts) × (stateHeld (here .session) ≡ fedPieces s (pieces ts) .state)
-    × (here .status ≡ Endless → length ts ≡ 18446744073709551615)
+-- Passes bring it from a state to here. Too many are no fewer than 64 bits can count.
+abbrev pub AllPasses : SessionState → Progress → Type 0
+AllPasses s here =
+    (ps : List Pass) × (here .status ≡ statusAfter ps) × (stateHeld (here .session) ≡ fedPieces s (pieces ps) .state)
+    × (here .status ≡ Endless → length ps ≡ 18446744073709551615)
 
 -- The last status: where the input has ended, by the write of what the end prints.
 abbrev pub AtEnd : Status → Status → Type 0

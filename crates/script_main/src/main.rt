@@ -8,12 +8,14 @@ use libc::STDIN_FILENO;
 use libc::STDOUT_FILENO;
 use script::Fed;
 use script::Session;
+use text::LINE_BYTES;
 ghost use Prim.Native.Nat.{_*_, _≤_};
 ghost use mathlib.Core.Path.{_≡_};
 ghost use mathlib.Core.Bool.{true};
 ghost use lib.ListN.{length, take};
+ghost use Rattle.text.specs.Writing.{lineLength};
 ghost use Rattle.script.specs.Feeding.{stateHeld, fed, finished};
-ghost use Rattle.script_main.specs.Turns.{isEnded, OneTurn, AllTurns, AtEnd, sentenceOf};
+ghost use Rattle.script_main.specs.Turns.{isEnded, OnePass, AllPasses, AtEnd, sentenceOf};
 
 mod answers;
 
@@ -36,16 +38,21 @@ struct Progress {
     session: Session,
 }
 
-// Room for what 4,096 bytes of input print: each of them may end a line, and a line prints at most 64 bytes.
-fn output_buffer() -> [u8; 262144]
-    ensures { λ r. ⌜ 262144 ≡ length r ⌝ }
+// The bytes of `io::buffer`: the most that a read brings.
+const INPUT_BYTES: usize = 4096;
+
+// Room for what these print: each of them may end a line.
+const OUTPUT_BYTES: usize = INPUT_BYTES * LINE_BYTES;
+
+fn output_buffer() -> [u8; OUTPUT_BYTES]
+    ensures { λ r. ⌜ 4096 * lineLength ≡ length r ⌝ }
 {
-    [0; 262144]
+    [0; OUTPUT_BYTES]
 }
 
 // Feeds all of a piece, where the output has room for what it prints.
 fn feed_all(session: Session, piece: &[u8], output: &mut [u8]) -> Fed
-    requires { ⌜ 64 * length (now piece) ≤ length (now output) ⌝ }
+    requires { ⌜ lineLength * length (now piece) ≤ length (now output) ⌝ }
     ensures session { λ r. ⌜ stateHeld (r .session) ≡ fed (stateHeld session) (now (piece .entry)) .state ⌝ }
     ensures written { λ r. ⌜ take (r .filled) (now (output .exit)) ≡ fed (stateHeld session) (now (piece .entry)) .prints ⌝ }
     ensures room { λ r. ⌜ r .filled ≤ length (now (output .exit)) ⌝ }
@@ -77,8 +84,8 @@ fn write_sentence(status: Status, sentence: &[u8])
 
 // One read, and what it makes the session print.
 fn read_once(session: Session, input: &mut [u8], output: &mut [u8]) -> Progress
-    requires { ⌜ 64 * length (now input) ≤ length (now output) ⌝ }
-    ensures { λ r. ⌜ OneTurn (stateHeld session) (now (input .exit)) r ⌝ }
+    requires { ⌜ lineLength * length (now input) ≤ length (now output) ⌝ }
+    ensures { λ r. ⌜ OnePass (stateHeld session) (now (input .exit)) r ⌝ }
 {
     let got = libc::read(STDIN_FILENO, input);
     let status = after_read(got);
@@ -102,8 +109,8 @@ fn read_once(session: Session, input: &mut [u8], output: &mut [u8]) -> Progress
 
 // Reads to the end of the input, or to the first failure. The count of reads falls, so that the loop ends; no input has as many.
 fn read_all(session: Session, input: &mut [u8], output: &mut [u8]) -> Progress
-    requires { ⌜ 64 * length (now input) ≤ length (now output) ⌝ }
-    ensures { λ r. ⌜ AllTurns (stateHeld session) r ⌝ }
+    requires { ⌜ lineLength * length (now input) ≤ length (now output) ⌝ }
+    ensures { λ r. ⌜ AllPasses (stateHeld session) r ⌝ }
 {
     let mut now = session;
     let mut left: u64 = 18446744073709551615;
@@ -134,7 +141,7 @@ fn write_end(last: Progress) -> Status
     let session = last.session;
     let text = script::finish(session);
     let bytes = text.bytes;
-    let count = script::least(text.length, 64);
+    let count = script::least(text.length, LINE_BYTES);
     let written = write_finished(last, &bytes[..count]);
     after_write(status, written)
 }

@@ -13,9 +13,13 @@ use Rattle.text.specs.declared.Text.{Text}
 unfoldable pub shown : Text → List ℕ
 shown t = take (t .length) (t .bytes)
 
--- what a text keeps of a list of bytes: the first 64
+-- the most bytes of a printed line
+abbrev pub lineLength : ℕ
+lineLength = 64
+
+-- what a text keeps of a list of bytes
 unfoldable pub capped : List ℕ → List ℕ
-capped bs = take 64 bs
+capped bs = take lineLength bs
 
 -- n in decimal without leading zeros; k is one less than the most digits that are written
 unfoldable pub decimalUpTo : ℕ → ℕ → List ℕ

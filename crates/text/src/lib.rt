@@ -26,10 +26,13 @@ pub enum Whole {
     Value(i32),
 }
 
-// The first `length` bytes of `bytes`: an output line while it is put together. What goes beyond 64 bytes is dropped.
+// The most bytes of a printed line.
+pub const LINE_BYTES: usize = 64;
+
+// The first `length` bytes of `bytes`: an output line while it is put together. What goes beyond `LINE_BYTES` is dropped.
 pub struct Text {
     pub length: usize,
-    pub bytes: [u8; 64],
+    pub bytes: [u8; LINE_BYTES],
 }
 
 // Carries the edge cases: at the ends of document 01's numbers the definitions say what it says.

@@ -1,4 +1,5 @@
 // Bytes and numbers put behind a text.
+use crate::LINE_BYTES;
 use crate::Text;
 use crate::signs::magnitude;
 ghost use mathlib.Core.Path.{_≡_};
@@ -22,7 +23,7 @@ impl Text {
     pub fn empty() -> Text
         ensures { λ r. ⌜ shown r ≡ [] ⌝ }
     {
-        let bytes = [0u8; 64];
+        let bytes = [0u8; LINE_BYTES];
         Text {
             length: 0,
             bytes: bytes,
@@ -33,7 +34,7 @@ impl Text {
         ensures { λ r. ⌜ shown r ≡ capped (shown self ++ b ∷ []) ⌝ }
     {
         let at = self.length;
-        if at < 64 {
+        if at < LINE_BYTES {
             self.bytes[at] = b;
             self.length = at + 1;
         }

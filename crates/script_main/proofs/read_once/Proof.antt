@@ -8,7 +8,7 @@ use lib.ListN.{length, length-take}
 use Rattle.io.specs.Counts.{clamped}
 use Rattle.script_main.specs.declared.Status.{Status}
 use Rattle.script_main.specs.Turns.{afterRead, afterWrite, isGoing}
-use Rattle.script_main.proofs.Turns.{passed-on, turnOf, counted-fed, turn-stops, turn-goes}
+use Rattle.script_main.proofs.Turns.{passed-on, passOf, counted-fed, pass-stops, pass-goes}
 use Rattle.script_main.proofs.read_once.Statement.{statement}
 use Rattle.script_main.proofs.read_once.Tie as tie
 
@@ -17,8 +17,8 @@ returns c =
     let read = c .before .before .before .before .before .read in
     let a : c .before .before .after-read .result ≡ afterRead (read .result) = c .before .before .after-read .ensures ∙ ap afterRead (passed-on _ (read .ok)) in
     let e : isGoing (afterRead (read .result)) ≡ false = ap isGoing (sym a) ∙ sym (c .before .goes-on .ensures) ∙ not-true _ (c .if1 .taken) in
-    let t = turnOf (read .result) _ (read .last .1 .0) (read .kept .1 .0) (read .ensures) true in
-    let s = turn-stops _ t e in
+    let t = passOf (read .result) _ (read .last .1 .0) (read .kept .1 .0) (read .ensures) true in
+    let s = pass-stops _ t e in
     (t, refl, a ∙ s .0, s .1)
 
 slice-aggregate-write-printed-2 : tie.Need-slice-aggregate-write-printed-2
@@ -32,11 +32,11 @@ returns-2 c =
     let read = goes .before .before .before .before .before .read in
     let a : goes .before .before .after-read .result ≡ afterRead (read .result) = goes .before .before .after-read .ensures ∙ ap afterRead (passed-on _ (read .ok)) in
     let e : isGoing (afterRead (read .result)) ≡ true = ap isGoing (sym a) ∙ sym (goes .before .goes-on .ensures) ∙ not-false _ (goes .if1 .left) in
-    let t = turnOf (read .result) _ (read .last .1 .0) (read .kept .1 .0) (read .ensures) (c .before .write-printed .result) in
+    let t = passOf (read .result) _ (read .last .1 .0) (read .kept .1 .0) (read .ensures) (c .before .write-printed .result) in
     let n : at-count .count .result ≡ clamped (t .got) (length (t .buffer)) =
     at-count .count .ensures .1 ∙ ap (λ (z : ℤ). clamped z (length (t .buffer))) (passed-on (t .got) (read .ok)) in
     let w : c .after-write .result ≡ afterWrite (afterRead (t .got)) (t .written) = c .after-write .ensures ∙ ap (λ (x : Status). afterWrite x (t .written)) a in
-    (t, refl, w ∙ turn-goes t e, at-feed .feed-all .ensures .0 ∙ counted-fed _ t _ n)
+    (t, refl, w ∙ pass-goes t e, at-feed .feed-all .ensures .0 ∙ counted-fed _ t _ n)
 
 pub read-once-spec : {M : Type 1} → statement M
 read-once-spec =

@@ -4,20 +4,20 @@ use native.Mathlib.Omega.{arith}
 use borrow.Author.Needs.{needs}
 use borrow.Author.Tests.{not-true, not-false}
 use lib.ListN.{length, length-take}
-use Rattle.text.specs.Writing.{shown}
+use Rattle.text.specs.Writing.{shown, lineLength}
+use Rattle.script.proofs.Lists.{take-most}
 use Rattle.script_main.specs.Turns.{isEnded}
-use Rattle.script_main.proofs.Whole.{take-most}
 use Rattle.script_main.proofs.write_end.Statement.{statement}
 use Rattle.script_main.proofs.write_end.Tie as tie
 
 array-share-prefix-bytes : tie.Need-array-share-prefix-bytes
 array-share-prefix-bytes c =
-    let h : length (c .before .before .finish .result .bytes) ≡ 64 = search needs in
+    let h : length (c .before .before .finish .result .bytes) ≡ lineLength = search needs in
     omega (arith, c .least .ensures)
 
 slice-aggregate-write-finished : tie.Need-slice-aggregate-write-finished
 slice-aggregate-write-finished c =
-    let h : length (c .before .before .before .finish .result .bytes) ≡ 64 = search needs in
+    let h : length (c .before .before .before .finish .result .bytes) ≡ lineLength = search needs in
     simp length-take (omega (arith, c .before .least .ensures))
 
 write-finished-requires : tie.Need-write-finished-requires
@@ -25,9 +25,9 @@ unfolding shown
 write-finished-requires c κs =
     let ended = c .before .before .before .before .before in
     let text = c .before .before .before .finish in
-    let h : length (text .result .bytes) ≡ 64 = search needs in (
+    let h : length (text .result .bytes) ≡ lineLength = search needs in (
       sym (ended .before .has-ended .ensures) ∙ not-false _ (ended .if1 .left),
-      rw (c .before .least .ensures, ← h) (take-most (text .result .length) (text .result .bytes) ∙ text .ensures),
+      rw (c .before .least .ensures) (take-most (text .result .bytes) (text .result .length) lineLength h ∙ text .ensures),
     )
 
 returns : tie.Need-returns

@@ -3,7 +3,7 @@ use native.Mathlib.Omega.{arith}
 use borrow.Author.Needs.{length-unmapped, needs}
 use borrow.Author.Tests.{lt-leb}
 use lib.ListN.{length, length-take}
-use Rattle.exports.specs.Layout.{lineLength}
+use Rattle.text.specs.Writing.{lineLength}
 use Rattle.exports.proofs.Sessions.{text-put}
 use Rattle.exports.proofs.scripts.put_text.Statement.{statement}
 use Rattle.exports.proofs.scripts.put_text.Tie as tie

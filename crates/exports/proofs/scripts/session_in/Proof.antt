@@ -1,7 +1,8 @@
 use native.Mathlib.Nat.{le-refl}
 use borrow.Author.Needs.{needs}
 use lib.ListN.{drop}
-use Rattle.exports.specs.Layout.{begunAt, begunLength}
+use Rattle.script.specs.Lines.{begunLength}
+use Rattle.exports.specs.Layout.{begunAt}
 use Rattle.exports.specs.Scripts.{stateIn}
 use Rattle.exports.proofs.Sessions.{over-zeros}
 use Rattle.exports.proofs.scripts.session_in.Statement.{statement}

@@ -7,13 +7,14 @@ use borrow.Author.Needs.{needs}
 use lib.ListN.{length, take, getD, set, length-take, length-set}
 use lib.Seq.{getD-take}
 use Rattle.text.proofs.Capped.{put-more, put-none}
-use Rattle.text.specs.Writing.{shown}
+use Rattle.text.specs.Writing.{shown, lineLength}
 use Rattle.rendezvous.specs.Table.{mostProcesses}
 use Rattle.rendezvous.proofs.Lengths.{length-mapped}
 use Rattle.rendezvous.proofs.Forms.{FormAt, form-start, form-more, form-end}
 use Rattle.rendezvous.proofs.Done.{done-both, done-own}
 use Rattle.script.specs.Types.{Reply}
 use Rattle.script.specs.Printing.{endOfLine}
+use Rattle.script.specs.Lines.{begunLength}
 use Rattle.script.specs.Feeding.{tableIf}
 use Rattle.script.proofs.Lists.{take-most}
 use Rattle.script.proofs.Outputs.{put-end, put-all}
@@ -23,13 +24,13 @@ use Rattle.script.proofs.feeding.feed.Statement.{statement}
 use Rattle.script.proofs.feeding.feed.Tie as tie
 
 abbrev Inv-loop2 : tie.InvT-loop2
-Inv-loop2 piece out made table bytes held taken filled i b command kind head form₀ k₀ form k = (k ≤ head .n) × FormAt table k form
+Inv-loop2 piece out made table bytes held taken filled i b command head form₀ k₀ form k = (k ≤ head .n) × FormAt table k form
 
 abbrev μ-loop2 : tie.MeasureT-loop2
-μ-loop2 piece out made table bytes held taken filled i b command kind head form₀ k₀ form k = head .n - k
+μ-loop2 piece out made table bytes held taken filled i b command head form₀ k₀ form k = head .n - k
 
 abbrev Inv-loop : tie.InvT-loop
-Inv-loop piece out₀ made₀ table₀ bytes₀ held₀ taken filled₀ i₀ out made table bytes held filled i = (i ≤ taken) × (held ≤ 201) × (length bytes ≡ 201) × Sized table × Going (record { begun = take held₀ bytes₀; table = tableIf made₀ table₀ }) (take taken piece) out₀ (record { begun = take held bytes; table = tableIf made table }) i out filled
+Inv-loop piece out₀ made₀ table₀ bytes₀ held₀ taken filled₀ i₀ out made table bytes held filled i = (i ≤ taken) × (held ≤ begunLength) × (length bytes ≡ begunLength) × Sized table × Going (record { begun = take held₀ bytes₀; table = tableIf made₀ table₀ }) (take taken piece) out₀ (record { begun = take held bytes; table = tableIf made table }) i out filled
 
 abbrev μ-loop : tie.MeasureT-loop
 μ-loop piece out₀ made₀ table₀ bytes₀ held₀ taken filled₀ i₀ out made table bytes held filled i = taken - i
@@ -65,7 +66,7 @@ loop2-again c =
     )
 
 -- there is room for a line
-room : (c : tie.In-loop Inv-loop2 μ-loop2 Inv-loop μ-loop) → c .before .loop .filled + 64 ≤ length (c .before .loop .out)
+room : (c : tie.In-loop Inv-loop2 μ-loop2 Inv-loop μ-loop) → c .before .loop .filled + lineLength ≤ length (c .before .loop .out)
 room c =
     let g = c .before .loop .inv .4 in
     omega (arith, c .before .before .least2 .ensures, g .room, g .long)
@@ -129,8 +130,8 @@ loop-again c =
 
 -- a byte that does not end the line
 byte-again : (w : tie.In-loop Inv-loop2 μ-loop2 Inv-loop μ-loop) (bytes : List ℕ) (held : ℕ) → let l = w .before in let a = l .before .before .before .before .before .before .before .args in
-    let b = getD (a .piece .now) (l .loop .i) 0 in (b ≡ endOfLine → ⊥) → held ≤ 201 → length bytes ≡ 201
-    → take held bytes ≡ take 201 (take (l .loop .held) (l .loop .bytes) ++ b ∷ [])
+    let b = getD (a .piece .now) (l .loop .i) 0 in (b ≡ endOfLine → ⊥) → held ≤ begunLength → length bytes ≡ begunLength
+    → take held bytes ≡ take begunLength (take (l .loop .held) (l .loop .bytes) ++ b ∷ [])
     → Inv-loop (a .piece .now) (a .out .now) (a .session .made) (a .session .table) (a .session .bytes) (l .before .before .least .result) (l .before .least2 .result) 0 0 (l .loop .out) (l .loop .made) (l .loop .table) bytes held (l .loop .filled) (l .loop .i + 1)
 byte-again w bytes held n h e f =
     let l = w .before in
@@ -147,12 +148,12 @@ byte-again w bytes held n h e f =
 loop-again-2 : tie.Need-loop-again-2 Inv-loop2 μ-loop2 Inv-loop μ-loop
 loop-again-2 c =
     let l = c .before .before .before .before .loop in
-    byte-again (c .before .before .before) _ _ (c .before .if1 .left) (omega arith) (simp length-set (l .inv .2)) (put-more (l .bytes) 201 (l .held) _ (l .inv .2) (omega arith))
+    byte-again (c .before .before .before) _ _ (c .before .if1 .left) (omega arith) (simp length-set (l .inv .2)) (put-more (l .bytes) begunLength (l .held) _ (l .inv .2) (omega arith))
 
 loop-again-3 : tie.Need-loop-again-3 Inv-loop2 μ-loop2 Inv-loop μ-loop
 loop-again-3 c =
     let l = c .before .before .before .before .loop in
-    byte-again (c .before .before .before) _ _ (c .before .if1 .left) (l .inv .1) (l .inv .2) (put-none (l .bytes) 201 (l .held) _ (l .inv .2) (omega arith))
+    byte-again (c .before .before .before) _ _ (c .before .if1 .left) (l .inv .1) (l .inv .2) (put-none (l .bytes) begunLength (l .held) _ (l .inv .2) (omega arith))
 
 same-length : tie.Need-same-length Inv-loop2 μ-loop2 Inv-loop μ-loop
 same-length c = c .before .loop .inv .4 .long
@@ -162,8 +163,8 @@ returns c =
     let l = c .before in
     let a = l .before .before .before .before .before .before .before .args in
     let taken = l .before .least2 .result in
-    let bytes : length (a .session .bytes) ≡ 201 = search needs in
-    let begun : take (l .before .before .least .result) (a .session .bytes) ≡ take (a .session .length) (a .session .bytes) = rw (l .before .before .least .ensures) (take-most (a .session .bytes) (a .session .length) 201 bytes) in
+    let bytes : length (a .session .bytes) ≡ begunLength = search needs in
+    let begun : take (l .before .before .least .result) (a .session .bytes) ≡ take (a .session .length) (a .session .bytes) = rw (l .before .before .least .ensures) (take-most (a .session .bytes) (a .session .length) begunLength bytes) in
     let g = l .loop .inv .4 in
     let end : length (take taken (a .piece .now)) ≤ l .loop .i = simp length-take (omega arith) in
     let all = going-end _ _ _ _ (l .loop .i) _ _ g end (omega (arith, l .before .least2 .ensures, g .room, g .long)) in
@@ -178,7 +179,6 @@ feed-spec =
     μ-loop2
     Inv-loop
     μ-loop
-    (λ c. search needs)
     (λ c κs. search needs)
     (λ c κs. search needs)
     loop-holds

@@ -6,14 +6,14 @@ use native.Mathlib.Omega.{arith}
 use borrow.Author.Needs.{needs}
 use lib.ListN.{length, length-set}
 use lib.Seq.{paste, paste-zero}
-use Rattle.text.specs.Writing.{shown}
+use Rattle.text.specs.Writing.{shown, lineLength}
 use Rattle.script.specs.Private.{putAt, putEnd}
 use Rattle.script.proofs.Outputs.{copied-more, copied-all}
 use Rattle.script.proofs.output.put.Statement.{statement}
 use Rattle.script.proofs.output.put.Tie as tie
 
 abbrev Inv-loop : tie.InvT-loop
-Inv-loop out₀ at bytes count k₀ out k = (k ≤ count) × (count ≤ 64) × (length bytes ≡ 64) × (length out ≡ length out₀) × (out ≡ paste out₀ at bytes k)
+Inv-loop out₀ at bytes count k₀ out k = (k ≤ count) × (count ≤ lineLength) × (length bytes ≡ lineLength) × (length out ≡ length out₀) × (out ≡ paste out₀ at bytes k)
 
 abbrev μ-loop : tie.MeasureT-loop
 μ-loop out₀ at bytes count k₀ out k = count - k
@@ -35,9 +35,9 @@ loop-again c =
       copied-more (a .out .now) (l .loop .out) (a .at) (a .text .bytes) (l .loop .k) (omega arith) (omega arith) (h .4),
     )
 
--- there is no room for 64 bytes
-no-room : (at : ℕ) (text out : List ℕ) → length out < at + 64 → (at ≡ putEnd at text out) × (out ≡ putAt at text out)
-no-room at text out h = (rw (lt-leb (at + 64) (length out) h) refl, rw (lt-leb (at + 64) (length out) h) refl)
+-- there is no room for a line
+no-room : (at : ℕ) (text out : List ℕ) → length out < at + lineLength → (at ≡ putEnd at text out) × (out ≡ putAt at text out)
+no-room at text out h = (rw (lt-leb (at + lineLength) (length out) h) refl, rw (lt-leb (at + lineLength) (length out) h) refl)
 
 returns : tie.Need-returns Inv-loop μ-loop
 returns c = no-room _ _ _ (omega (arith, c .if1 .taken))

@@ -2,6 +2,7 @@ use mathlib.Core.Path.{_≡_, sym, _∙_}
 use mathlib.Core.List.{append-assoc, append-nil}
 use borrow.Author.Needs.{needs}
 use lib.ListN.{length}
+use Rattle.text.specs.Writing.{lineLength}
 use Rattle.text.proofs.Capped.{capped-capped, capped-shown}
 use Rattle.script.specs.Printing.{answerText}
 use Rattle.script.proofs.printing.answer_text.Statement.{statement}
@@ -11,7 +12,7 @@ returns : tie.Need-returns
 unfolding answerText
 returns c =
     let t = c .before .before .args .command in
-    let h : length (t .bytes) ≡ 64 = search needs in
+    let h : length (t .bytes) ≡ lineLength = search needs in
     rw (c .enum-told .given .1) (sym (capped-shown t h) ∙ simp append-nil)
 
 returns-2 : tie.Need-returns-2

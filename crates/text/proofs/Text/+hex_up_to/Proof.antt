@@ -3,7 +3,7 @@ use mathlib.Core.Path.{_≡_, sym, _∙_, ap}
 use mathlib.Core.List.{List, [], _∷_, _++_}
 use borrow.Author.Needs.{needs}
 use lib.ListN.{length}
-use Rattle.text.specs.Writing.{hexGlyph, hexUpTo, shown, capped}
+use Rattle.text.specs.Writing.{hexGlyph, hexUpTo, shown, capped, lineLength}
 use Rattle.text.proofs.Capped.{capped-shown, capped-then}
 use Rattle.text.proofs.Printed.{hex-none, hex-last}
 use borrow.Fn.Kinds.{In}
@@ -33,7 +33,7 @@ claims t = (hex-up-to-below t, hex-up-to.Post, glyph-reads.Asked, glyph-reads.Le
 hex-up-to-returns : (t : ℕ) → hex-up-to-lts.Need-returns (claims t) (hex-up-to-at t) hex-up-to.Post
 hex-up-to-returns t c =
     let a = c .before .args in
-    let h : length (a .self .bytes) ≡ 64 = search needs in
+    let h : length (a .self .bytes) ≡ lineLength = search needs in
     sym (ap (λ (l : List ℕ). capped (shown (a .self) ++ l)) (hex-none (a .digits) (a .n) (c .if1 .taken)) ∙ capped-shown (a .self) h)
 
 hex-up-to-returns-2 : (t : ℕ) → hex-up-to-lts.Need-returns-2 (claims t) (hex-up-to-at t) hex-up-to.Post
