@@ -77,6 +77,8 @@
 #define RENDEZVOUS_COLLECTED 4
 #define RENDEZVOUS_RUNNABLE 5
 #define RENDEZVOUS_REFUSED 6
+#define RENDEZVOUS_WITHDRAWN 7
+#define RENDEZVOUS_TOO_LATE 8
 
 #define RENDEZVOUS_BEGUN_BYTES 201 /* for a begun line: one more than a line may have */
 #define RENDEZVOUS_SESSION_BEGUN 2
@@ -98,6 +100,10 @@ bool rendezvous_step(const uint8_t *table, size_t table_length, uint8_t p, uint8
 /* A collection from process p. */
 bool rendezvous_collect(const uint8_t *table, size_t table_length, uint8_t p, uint8_t *out, size_t out_length, uint8_t *answer,
                         size_t answer_length);
+
+/* A withdrawal of process p's offer: withdrawn, or too late, since a commit came first. */
+bool rendezvous_withdraw(const uint8_t *table, size_t table_length, uint8_t p, uint8_t *out, size_t out_length, uint8_t *answer,
+                         size_t answer_length);
 
 /* The set of processes that a step would change. */
 bool rendezvous_runnable(const uint8_t *table, size_t table_length, uint8_t *out, size_t out_length, uint8_t *answer,

@@ -80,6 +80,8 @@ pub const UNCHANGED: u8 = 3;
 pub const COLLECTED: u8 = 4;
 pub const RUNNABLE: u8 = 5;
 pub const REFUSED: u8 = 6;
+pub const WITHDRAWN: u8 = 7;
+pub const TOO_LATE: u8 = 8;
 
 /// For a begun line: one more than a line may have.
 pub const BEGUN_BYTES: usize = 201;
@@ -145,6 +147,22 @@ pub fn step(table: &[u8], p: u8, out: &mut [u8], answer: &mut [u8]) -> bool {
 pub fn collect(table: &[u8], p: u8, out: &mut [u8], answer: &mut [u8]) -> bool {
     unsafe {
         rendezvous_collect(
+            table.as_ptr(),
+            table.len(),
+            p,
+            out.as_mut_ptr(),
+            out.len(),
+            answer.as_mut_ptr(),
+            answer.len(),
+        )
+    }
+}
+
+/// A withdrawal of process `p`'s offer: withdrawn, or too late, since a commit came first.
+#[must_use]
+pub fn withdraw(table: &[u8], p: u8, out: &mut [u8], answer: &mut [u8]) -> bool {
+    unsafe {
+        rendezvous_withdraw(
             table.as_ptr(),
             table.len(),
             p,
@@ -286,6 +304,15 @@ unsafe extern "C" {
         answer_length: usize,
     ) -> bool;
     fn rendezvous_collect(
+        table: *const u8,
+        table_length: usize,
+        p: u8,
+        out: *mut u8,
+        out_length: usize,
+        answer: *mut u8,
+        answer_length: usize,
+    ) -> bool;
+    fn rendezvous_withdraw(
         table: *const u8,
         table_length: usize,
         p: u8,
