@@ -53,23 +53,24 @@ command-glued k b bs h = rw (ne-eqb b (code " ") h) (glued k b (fields bs) (eqb 
 -- of the letters only `m` stands alone
 pub alone-none : (k : ℕ) → (k ≡ code "m" → ⊥) → byLetter k [] ≡ none
 unfolding byLetter numbered numberIn offerIn
-alone-none k h = rw (ne-eqb k (code "m") h) (same (eqb k (code "n")) (eqb k (code "o")) (eqb k (code "s")) (eqb k (code "c")))
+alone-none k h = rw (ne-eqb k (code "m") h) (same (eqb k (code "n")) (eqb k (code "o")) (eqb k (code "s")) (eqb k (code "c")) (eqb k (code "w")))
   where
-    same : (n o s c : Bool) → _≡_ {A = Option Command} (cond n none (cond o none (cond s none (cond c none none)))) none
-    same true o s c = refl
-    same false true s c = refl
-    same false false true c = refl
-    same false false false true = refl
-    same false false false false = refl
+    same : (n o s c w : Bool) → _≡_ {A = Option Command} (cond n none (cond o none (cond s none (cond c none (cond w none none))))) none
+    same true o s c w = refl
+    same false true s c w = refl
+    same false false true c w = refl
+    same false false false true w = refl
+    same false false false false true = refl
+    same false false false false false = refl
 
 -- a letter with bytes after its space: there is a field, so the movers are malformed
 no-movers : (s : List ℕ) (m : Bool) → cond m (provided (isEmpty (fields s)) Movers) none ≡ none
 no-movers s true = rw (fields-cut s)
 no-movers s false = refl
 
-pub with-none : (k : ℕ) (s : List ℕ) → (k ≡ code "n" → ⊥) → (k ≡ code "o" → ⊥) → (k ≡ code "s" → ⊥) → (k ≡ code "c" → ⊥) → byLetter k (fields s) ≡ none
+pub with-none : (k : ℕ) (s : List ℕ) → (k ≡ code "n" → ⊥) → (k ≡ code "o" → ⊥) → (k ≡ code "s" → ⊥) → (k ≡ code "c" → ⊥) → (k ≡ code "w" → ⊥) → byLetter k (fields s) ≡ none
 unfolding byLetter
-with-none k s n o t c = rw (ne-eqb k (code "n") n, ne-eqb k (code "o") o, ne-eqb k (code "s") t, ne-eqb k (code "c") c) (no-movers s (eqb k (code "m")))
+with-none k s n o t c w = rw (ne-eqb k (code "n") n, ne-eqb k (code "o") o, ne-eqb k (code "s") t, ne-eqb k (code "c") c, ne-eqb k (code "w") w) (no-movers s (eqb k (code "m")))
 
 -- a command of one number, in the form of the code
 pub numbered-as : (kind : Kind) (make : ℕ → Command) → ((n : ℕ) → plain kind n ≡ asParsed (some (make n))) → (fs : List (List ℕ)) → asNumbered kind (numberIn fs) ≡ asParsed (numbered make fs)

@@ -1,4 +1,4 @@
--- To be believed. Document 01, "The script program" and "Edges to try": what some lines say. The function `line_cases` carries these claims.
+-- To be believed. Document 01, "The script program" and "Edges to try", and CR 1 of document 02: what some lines say. The function `line_cases` carries these claims.
 use Prim.Native.Nat.{ℕ}
 use Prim.Native.String.{String}
 use mathlib.Core.Path.{_≡_}
@@ -8,7 +8,7 @@ use mathlib.Core.Option.{Option, some, none}
 use lib.IntN.{negℤ, pos}
 use lib.Ieee.{binary32, ofBits}
 use Rattle.text.specs.Ascii.{bytes}
-use Rattle.command.specs.Types.{Message, Action, Guard, Offer, Step, Collect, Command, New, Do, Movers}
+use Rattle.command.specs.Types.{Message, Action, Guard, Offer, Step, Collect, Withdraw, Command, New, Do, Movers}
 use Rattle.command.specs.Commands.{commandOf}
 
 abbrev says : String → Option Command
@@ -30,6 +30,7 @@ pub record LineCases : Type 0 where
       × (says "o 0 -1?" ≡ some (Do (Offer 0 (record { enabled = false; partner = 1; action = Action.Receive } ∷ []))))
       × (says "s 0" ≡ some (Do (Step 0)))
       × (says "c 1" ≡ some (Do (Collect 1)))
+      × (says "w 0" ≡ some (Do (Withdraw 0)))
       × (says "m" ≡ some Movers)
   pub malformed : (says "n 256" ≡ none)
       × (says "n 02" ≡ none)
@@ -49,3 +50,6 @@ pub record LineCases : Type 0 where
       × (says "o 0 1!r7FC00000" ≡ none)
       × (says "o 0 1!l00000001" ≡ none)
       × (says "o 0 --1?" ≡ none)
+      × (says "w" ≡ none)
+      × (says "w7" ≡ none)
+      × (says "w 0 1" ≡ none)

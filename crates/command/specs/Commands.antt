@@ -1,4 +1,4 @@
--- To be believed. Document 01, "The script program": what a line says. `none` where it says no command: the line is malformed.
+-- To be believed. Document 01, "The script program", and CR 1 of document 02: what a line says. `none` where it says no command: the line is malformed.
 use Prim.Native.Nat.{ℕ, suc}
 use Prim.Native.Char.{code}
 use mathlib.Core.Bool.{Bool, true, false, cond}
@@ -9,7 +9,7 @@ use lib.Dec.{eqb}
 use lib.Ieee.{binary32, ofBits}
 use Rattle.text.specs.Types.{_>>=_}
 use Rattle.text.specs.Reading.{isDigit, provided, byteNumber, whole, hexWord}
-use Rattle.command.specs.Types.{Message, Action, Guard, Offer, Step, Collect, Command, New, Do, Movers}
+use Rattle.command.specs.Types.{Message, Action, Guard, Offer, Step, Collect, Withdraw, Command, New, Do, Movers}
 
 -- b as the first byte of the first field
 abbrev pub putBefore : ℕ → List (List ℕ) → List (List ℕ)
@@ -116,20 +116,21 @@ offerIn (f ∷ fs) = do
   gs ← guardsIn fs
   some (Do (Offer p gs))
 
--- "`n N`", "`s P`", "`c P`": the fields after the letter
+-- "`n N`", "`s P`", "`c P`", "`w P`": the fields after the letter
 unfoldable pub numbered : (ℕ → Command) → List (List ℕ) → Option Command
 numbered make fs = do
   n ← numberIn fs
   some (make n)
 
--- "`n N` makes a desk; `o P G..` offers, with no guards or more; `s P` steps; `c P` collects; `m` prints movers.": the letter k, and the fields after it
+-- "`n N` makes a desk; `o P G..` offers, with no guards or more; `s P` steps; `c P` collects; `m` prints movers.", and CR 1's "`w P`": the letter k, and the fields after it
 unfoldable pub byLetter : ℕ → List (List ℕ) → Option Command
 byLetter k fs =
     cond (eqb k (code "n")) (numbered New fs)
     (cond (eqb k (code "o")) (offerIn fs)
     (cond (eqb k (code "s")) (numbered (λ p. Do (Step p)) fs)
     (cond (eqb k (code "c")) (numbered (λ p. Do (Collect p)) fs)
-    (cond (eqb k (code "m")) (provided (isEmpty fs) Movers) none))))
+    (cond (eqb k (code "w")) (numbered (λ p. Do (Withdraw p)) fs)
+    (cond (eqb k (code "m")) (provided (isEmpty fs) Movers) none)))))
 
 -- the first field is a letter, which is one byte
 unfoldable pub commandIn : List (List ℕ) → Option Command

@@ -3,7 +3,7 @@ use Prim.Native.Nat.{ℕ}
 use mathlib.Core.List.{[]}
 use mathlib.Core.Option.{Option, some, none}
 use Rattle.alternative.specs.Guards.{lent}
-use Rattle.command.specs.Types.{Offer, Step, Collect, Command, New, Do, Movers, Kind, Parsed}
+use Rattle.command.specs.Types.{Offer, Step, Collect, Withdraw, Command, New, Do, Movers, Kind, Parsed}
 
 -- a command without guards
 abbrev pub plain : Kind → ℕ → Parsed
@@ -15,4 +15,5 @@ asParsed (some (New n)) = plain Kind.New n
 asParsed (some (Do (Offer p gs))) = record { kind = Kind.Offer; number = p; list = lent gs }
 asParsed (some (Do (Step p))) = plain Kind.Step p
 asParsed (some (Do (Collect p))) = plain Kind.Collect p
+asParsed (some (Do (Withdraw p))) = plain Kind.Withdraw p
 asParsed (some Movers) = plain Kind.Movers 0

@@ -51,6 +51,9 @@ fn parse_with(letter: u8, s: &[u8]) -> Parsed
     if letter == b'c' {
         return parse_numbered(Kind::Collect, s);
     }
+    if letter == b'w' {
+        return parse_numbered(Kind::Withdraw, s);
+    }
     plain_command(Kind::Malformed, 0)
 }
 

@@ -24,6 +24,7 @@ pub enum Kind {
     Offer,
     Step,
     Collect,
+    Withdraw,
     Movers,
 }
 
@@ -63,7 +64,7 @@ enum ReadGuard {
     Value(Guard),
 }
 
-// Carries the cases: of some lines the definitions say what document 01 says.
+// Carries the cases: of some lines the definitions say what the documents say.
 pub fn line_cases()
     ensures { λ _. ⌜ LineCases ⌝ }
 {}

@@ -1,5 +1,5 @@
 -- To be believed. What an exported call hands back: the bytes of the table, those of the answer, and whether the table given and both buffers were long enough.
-use Rattle.rendezvous.specs.Numbers.{Said, said, made, ticket, place, same, outcome, movers, refusal}
+use Rattle.rendezvous.specs.Numbers.{Said, said, made, ticket, place, same, outcome, withdrawn, tooLate, movers, refusal}
 use Rattle.wire.specs.Claims.{Faithful}
 use Rattle.wire.specs.Layout.{tableLength}
 use Rattle.wire.specs.Writing.{wordBytes, messageBytes, bytesOf}
@@ -28,6 +28,8 @@ saidBytes same = laidOut 3 0 0 Message.Nothing 0
 saidBytes (outcome i q m) = laidOut 4 i q m 0
 saidBytes (movers set) = laidOut 5 0 0 Message.Nothing set
 saidBytes (refusal number) = laidOut 6 number 0 Message.Nothing 0
+saidBytes withdrawn = laidOut 7 0 0 Message.Nothing 0
+saidBytes tooLate = laidOut 8 0 0 Message.Nothing 0
 
 -- whether bytes are enough for a table
 abbrev pub isTable : List ℕ → Bool

@@ -20,5 +20,7 @@ collectedOf Answer.Made = Message.Nothing
 collectedOf (Answer.Offered t) = Message.Nothing
 collectedOf (Answer.Moved place) = Message.Nothing
 collectedOf Answer.Unchanged = Message.Nothing
+collectedOf Answer.Withdrawn = Message.Nothing
+collectedOf Answer.TooLate = Message.Nothing
 collectedOf (Answer.Runnable set) = Message.Nothing
 collectedOf (Answer.Refused r) = Message.Nothing

@@ -63,6 +63,8 @@ fn answer_bytes(answer: Answer) -> [u8; layout::ANSWER_BYTES]
         Answer::Collected(i, q, m) => laid_out(4, i, q, m, 0),
         Answer::Runnable(set) => laid_out(5, 0, 0, Message::Nothing, set),
         Answer::Refused(refusal) => laid_out(6, refusal.number(), 0, Message::Nothing, 0),
+        Answer::Withdrawn => laid_out(7, 0, 0, Message::Nothing, 0),
+        Answer::TooLate => laid_out(8, 0, 0, Message::Nothing, 0),
     }
 }
 

@@ -6,7 +6,7 @@ use wire::decode;
 use wire::offer_of;
 ghost use mathlib.Core.Path.{_≡_};
 ghost use mathlib.Core.Bool.{true};
-ghost use Rattle.rendezvous.specs.Calls.{create, offer, step, collect};
+ghost use Rattle.rendezvous.specs.Calls.{create, offer, step, collect, withdraw};
 ghost use Rattle.rendezvous.specs.Movers.{runnable};
 ghost use Rattle.wire.specs.Reading.{tableOf, offerOf};
 ghost use Rattle.script.specs.Feeding.{start};
@@ -73,6 +73,19 @@ pub extern "C" fn rendezvous_collect(table: &[u8], p: u8, out: &mut [u8], answer
     ensures { λ r. ⌜ Gives (isTable (now (table .entry))) (collect (tableOf (now (table .entry))) p) (now (out .entry)) (now (answer .entry)) (now (out .exit)) (now (answer .exit)) r ⌝ }
 {
     give(is_table(table), decode(table).collect(p), out, answer)
+}
+
+// A withdrawal of process p's offer.
+#[no_mangle]
+pub extern "C" fn rendezvous_withdraw(
+    table: &[u8],
+    p: u8,
+    out: &mut [u8],
+    answer: &mut [u8],
+) -> bool
+    ensures { λ r. ⌜ Gives (isTable (now (table .entry))) (withdraw (tableOf (now (table .entry))) p) (now (out .entry)) (now (answer .entry)) (now (out .exit)) (now (answer .exit)) r ⌝ }
+{
+    give(is_table(table), decode(table).withdraw(p), out, answer)
 }
 
 // The processes that can move.

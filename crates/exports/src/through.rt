@@ -71,6 +71,8 @@ fn collected_of(answer: Answer) -> Message
         Answer::Offered(_) => Message::Nothing,
         Answer::Moved(_) => Message::Nothing,
         Answer::Unchanged => Message::Nothing,
+        Answer::Withdrawn => Message::Nothing,
+        Answer::TooLate => Message::Nothing,
         Answer::Runnable(_) => Message::Nothing,
         Answer::Refused(_) => Message::Nothing,
     }

@@ -1,7 +1,7 @@
 -- How a book goes with a table: the same next ticket and open offers, and each outcome of a rendezvous due from its commit to its collection.
 use Prim.Native.Nat.{ℕ}
 use mathlib.Core.Path.{_≡_, refl, sym, _∙_, subst, fun-ext}
-use mathlib.Core.Bool.{false, cond, true≢false}
+use mathlib.Core.Bool.{Bool, true, false, cond, true≢false}
 use mathlib.Core.List.{List}
 use mathlib.Core.Option.{Option, some, none}
 use lib.ListN.{getD}
@@ -66,6 +66,20 @@ InStep t b = InStepOf (t .head .next .0) (process t) b
 pub none-due : (d : Option Due) → isDue d ≡ false → d ≡ none
 none-due none e = refl
 none-due (some d) e = absurd (true≢false e)
+
+-- nothing is due to one with an open offer
+pub open-unowed : (pl : Place) (accepting : Bool) → openAt pl accepting ≡ true → isOwed pl accepting ≡ false
+open-unowed Place.Idle a o = refl
+open-unowed Place.Entering a o = refl
+open-unowed (Place.Scanning i) a o = refl
+open-unowed (Place.Trying i) a o = refl
+open-unowed (Place.Committed i j) a o = absurd (true≢false (sym o))
+open-unowed Place.Posting a o = refl
+open-unowed Place.Opening a o = refl
+open-unowed Place.Showing a o = rw o refl
+open-unowed Place.Asleep a o = refl
+open-unowed Place.Waiting a o = rw o refl
+open-unowed (Place.Met i m) a o = absurd (true≢false (sym o))
 
 -- what the book has for a process at a place
 module _ {lists : ℕ → List Guard} {b : History} {p : ℕ} {x : Process} (a : Agrees lists b p x) {place : Place} (e : x .place ≡ place) where

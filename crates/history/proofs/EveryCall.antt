@@ -1,36 +1,40 @@
 -- The book follows every call on a good table.
 use Prim.Native.Nat.{ℕ, suc, _+_, _<_}
-use mathlib.Core.Path.{_≡_, refl, sym, ap, subst⁻¹}
-use mathlib.Core.List.{List, append-nil}
+use mathlib.Core.Path.{_≡_, refl, sym, _∙_, ap, subst⁻¹}
+use mathlib.Core.Bool.{true, false, not, _&&_}
+use mathlib.Core.List.{List, [], _∷_, _++_, append-nil}
 use mathlib.Core.Logic.{inr}
 use mathlib.Core.Option.{some, none}
 use native.Mathlib.Omega.{arith}
-use borrow.Author.Tests.{eq-eqb, ne-eqb}
+use lib.Dec.{ltb}
+use borrow.Author.Tests.{eq-eqb, ne-eqb, lt-ltb}
 use Rattle.alternative.specs.declared.Message.{Message}
 use Rattle.alternative.specs.declared.Guard.{Guard}
 use Rattle.alternative.specs.Guards.{lent}
 use Rattle.process.specs.declared.Place.{Place}
 use Rattle.process.specs.declared.Process.{Process}
 use Rattle.rendezvous.specs.declared.ProcessTable.{ProcessTable}
-use Rattle.process.specs.Process.{ownList}
-use Rattle.rendezvous.specs.Table.{process}
+use Rattle.rendezvous.specs.declared.Answer.{Answer}
+use Rattle.process.specs.Process.{ownList, isOpen}
+use Rattle.rendezvous.specs.Table.{process, put, hasOpenOffer}
 use Rattle.process.specs.Rules.{atPlace}
 use Rattle.rendezvous.specs.Numbers.{ticket}
-use Rattle.rendezvous.specs.Calls.{entering, offered, collected}
+use Rattle.rendezvous.specs.Calls.{entering, offered, collected, givenUp}
 use Rattle.rendezvous.proofs.Verdicts.{Admitted}
-use Rattle.rendezvous.specs.Run.{Call, Offer, Step, Collect, replyTo}
-use Rattle.history.specs.Book.{History, enteredFor, enter}
-use Rattle.history.specs.Tables.{tables}
+use Rattle.rendezvous.specs.Run.{Call, Offer, Step, Collect, Withdraw, replyTo}
+use Rattle.history.specs.Book.{Rendezvous, Withdrawal, Joined, Withdrew, History, enteredFor, enter}
+use Rattle.history.specs.Tables.{madeBy, offerBy, tables}
+use Rattle.history.specs.Demand3.{Joins}
 use Rattle.history.proofs.View.{View, upd, entered-each, upd-other}
 use Rattle.history.proofs.Invariant.{Good}
 use Rattle.history.proofs.Places.{idle-is}
-use Rattle.history.proofs.Facts.{fine, unbound}
-use Rattle.history.proofs.Replies.{offer-elim, step-elim, collect-elim}
-use Rattle.history.proofs.GoodTable.{lent-back, put-one, good-after}
-use Rattle.history.proofs.Once.{once-offers}
+use Rattle.history.proofs.Facts.{fine, silent, unbound, open-uncommitted}
+use Rattle.history.proofs.Replies.{offer-elim, step-elim, collect-elim, withdraw-elim}
+use Rattle.history.proofs.GoodTable.{lent-back, put-one, put-there, good-after}
+use Rattle.history.proofs.Once.{once-offers, once-withdraws}
 use Rattle.history.proofs.Awaited.{awaited-put}
-use Rattle.history.proofs.Due.{listsOf, Agrees, InStepOf, InStep, none-due, offer-at, owed-at, due-at, agrees-other, lists-same}
-use Rattle.history.proofs.Followed.{Followed, joins-none, turned-away}
+use Rattle.history.proofs.Due.{listsOf, Agrees, InStepOf, InStep, none-due, open-unowed, offer-at, owed-at, due-at, agrees-other, lists-same}
+use Rattle.history.proofs.Followed.{Followed, joins-none, turned-away, too-late}
 use Rattle.history.proofs.Commit.{step-followed}
 use Rattle.history.proofs.EveryList.{FollowsOn}
 
@@ -109,11 +113,58 @@ module _ {t : ProcessTable} (good : Good t) {b : History} (k : InStep t b) (p : 
       others r rp = agrees-other (listsOf (process t)) (listsOf (process t)) b after r (process t r) refl (rw (ne-eqb r p rp))
           (λ a j c. (refl, rw (ne-eqb _ p (unbound (process t) (good .inv) p _ e (λ s. s) r a j c)))) (k .each r)
 
+  withdraw-followed : p < t .head .n → isOpen (process t p) ≡ true → Followed t b (Withdraw p) (record { answer = Answer.Withdrawn; table = put t p (givenUp (process t p)) })
+  unfolding enter
+  withdraw-followed below o = record {
+    after = after;
+    entered = rw (← opened);
+    run = rw made;
+    joins = λ r e. joins-other r (sym made ∙ e);
+    ticket = tt;
+    outcome = tt;
+    goes-on = subst⁻¹ (λ (v : View). InStepOf (t .head .next .0) v after) (put-one good p x below) (record {
+      counts = k .counts;
+      each = rw (lists-same (process t) p x refl) (entered-each (Agrees (listsOf (process t)) after) (process t) p x own others);
+      once = once-withdraws (k .once) p (offerBy (process t p)) moment (sym opened) refl;
+      awaited = awaited-put (process t) (k .awaited) p x (λ h. absurd (h .shows)) (λ i j c _. open-uncommitted (process t p) o i j c);
+    });
+  }
+    where
+      x : Process
+      x = givenUp (process t p)
+
+      moment : Withdrawal
+      moment = record { p = p; id = process t p .transaction .0 }
+
+      after : History
+      after = record { next = b .next; opened = enteredFor p none (b .opened); due = b .due; run = b .run ++ (Withdrew moment ∷ []) }
+
+      opened : some (offerBy (process t p)) ≡ b .opened p
+      opened = rw o at (k .each p .offer)
+
+      made : madeBy t (Withdraw p) (put t p x) ≡ Withdrew moment ∷ []
+      made = rw (lt-ltb p (t .head .n) below, o, put-there good p x below)
+
+      joins-other : (r : Rendezvous) → Withdrew moment ∷ [] ≡ Joined r ∷ [] → Joins b r
+      joins-other r e = let z : _≡_ {A = ℕ} 0 1 = cc in absurd (omega arith)
+
+      own : Agrees (listsOf (process t)) after p x
+      own = record {
+        offer = rw (eq-eqb p p refl);
+        owed = k .each p .owed ∙ open-unowed (process t p .place) (process t p .accepting) o;
+        at = tt;
+        told = rw (silent (process t) (good .inv) p o) tt;
+      }
+
+      others : (r : ℕ) → (r ≡ p → ⊥) → Agrees (listsOf (process t)) after r (process t r)
+      others r rp = agrees-other (listsOf (process t)) (listsOf (process t)) b after r (process t r) (rw (ne-eqb r p rp)) refl (λ i j c. (refl, refl)) (k .each r)
+
 followed : (t : ProcessTable) (b : History) → Good t → InStep t b → (c : Call) → Followed t b c (replyTo t c)
 unfolding replyTo
 followed t b good k (Offer p gs) = offer-elim (Followed t b (Offer p gs)) t (turned-away t b (Offer p gs) k) p gs (offer-followed good k p gs)
 followed t b good k (Step p) = step-elim (Followed t b (Step p)) t (turned-away t b (Step p) k) p (step-followed good k p)
 followed t b good k (Collect p) = collect-elim (Followed t b (Collect p)) t (turned-away t b (Collect p) k) p (collect-followed good k p)
+followed t b good k (Withdraw p) = withdraw-elim (Followed t b (Withdraw p)) t (turned-away t b (Withdraw p) k) p (too-late t b p k) (withdraw-followed good k p)
 
 -- a table and its book from which every list of calls goes well
 pub record Sound (t : ProcessTable) (b : History) : Type 0 where

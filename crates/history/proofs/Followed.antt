@@ -2,7 +2,7 @@
 use Prim.Native.Nat.{ℕ, suc, _<_}
 use Prim.Native.Char.{code}
 use mathlib.Core.Path.{_≡_, refl, sym, _∙_, subst, subst⁻¹}
-use mathlib.Core.Bool.{Bool, true, false, cond}
+use mathlib.Core.Bool.{Bool, true, false, not, _&&_, cond}
 use mathlib.Core.List.{List, [], _∷_, append-nil}
 use mathlib.Core.Logic.{inl}
 use mathlib.Core.Option.{some}
@@ -19,12 +19,12 @@ use Rattle.rendezvous.specs.declared.Answer.{Answer}
 use Rattle.rendezvous.specs.declared.Refusal.{Refusal}
 use Rattle.rendezvous.specs.declared.Reply.{Reply}
 use Rattle.process.specs.Process.{letterOf, isAt, indexOf, ownList, ownGuard, openAt}
-use Rattle.rendezvous.specs.Table.{process, put}
+use Rattle.rendezvous.specs.Table.{process, put, hasOpenOffer}
 use Rattle.process.proofs.PlaceCases.{if-committed}
 use Rattle.process.specs.Rules.{Own, atPlace, scanAt, scanFrom, scan, handOver, absorb}
 use Rattle.rendezvous.specs.Calls.{refused, applied}
 use Rattle.rendezvous.specs.Numbers.{Said, refusalNumber, said}
-use Rattle.rendezvous.specs.Run.{Call, Offer, Step, Collect}
+use Rattle.rendezvous.specs.Run.{Call, Offer, Step, Collect, Withdraw}
 use Rattle.history.specs.Book.{Rendezvous, Moment, Joined, History, seen, stepping, enter}
 use Rattle.history.specs.NothingLost.{isOwed, isDue}
 use Rattle.history.specs.Tables.{commitAt, madeBy, offerBy}
@@ -60,11 +60,21 @@ none-made false ms e = refl
 stays-made : (t : ProcessTable) (p : ℕ) (pl : Place) → cond (isAt "T" pl) (commitAt t p pl) [] ≡ []
 stays-made t p pl = if-committed (λ ms. cond (isAt "T" pl) ms [] ≡ []) [] _ pl (λ i j e. rw e refl) (none-made (isAt "T" pl) [] refl)
 
+-- a withdrawal makes nothing that leaves the table as it is
+kept-made : (o : Bool) (ms : List Moment) → cond (o && not o) ms [] ≡ []
+kept-made true ms = refl
+kept-made false ms = refl
+
 pub turned-away : (t : ProcessTable) (b : History) (c : Call) → InStep t b → (r : Refusal) → Followed t b c (refused r t)
 unfolding enter
 turned-away t b (Offer p gs) k r = enters-nothing _ _ _ refl refl (inl (refusalNumber r, refl)) tt k
 turned-away t b (Step p) k r = enters-nothing _ _ _ refl (stays-made t p (process t p .place)) tt tt k
 turned-away t b (Collect p) k r = enters-nothing _ _ _ refl refl tt (inl (refusalNumber r, refl)) k
+turned-away t b (Withdraw p) k r = enters-nothing _ _ _ refl (kept-made (hasOpenOffer t p) _) tt tt k
+
+pub too-late : (t : ProcessTable) (b : History) (p : ℕ) → InStep t b → Followed t b (Withdraw p) (record { answer = Answer.TooLate; table = t })
+unfolding enter
+too-late t b p k = enters-nothing _ _ _ refl (kept-made (hasOpenOffer t p) _) tt tt k
 
 -- p moves from place pl to the new record x, with its list: no commit is entered, the book goes with the record, p was not at C, and x is bound only if the old record was
 pub record Moving (t : ProcessTable) (b : History) (p : ℕ) (pl : Place) (x : Process) : Type 0 where

@@ -1,4 +1,4 @@
--- Every rule keeps the posted lists, the signals and the outcomes as refusal 7 asks.
+-- Every rule and a withdrawal keep the posted lists, the signals and the outcomes as refusal 7 asks.
 use Prim.Native.Nat.{ℕ, suc, _≤_}
 use mathlib.Core.Path.{_≡_, refl, subst}
 use mathlib.Core.List.{List}

@@ -13,20 +13,20 @@ use Rattle.alternative.specs.Guards.{mostGuards, blank, slots, lent}
 use Rattle.process.specs.declared.Place.{Place}
 use Rattle.process.specs.declared.Process.{Process}
 use Rattle.rendezvous.specs.declared.ProcessTable.{ProcessTable}
-use Rattle.process.specs.Process.{indexOf, nobody, freshProcess}
+use Rattle.process.specs.Process.{indexOf, nobody, freshProcess, isOpen}
 use Rattle.rendezvous.specs.Table.{mostProcesses, process, put, freshHead, freshTable}
 use Rattle.process.specs.Rules.{Effect, Neither, Own, Both, namedBy, partnerOf}
 use Rattle.process.specs.Fits.{allGuards, listFits}
-use Rattle.rendezvous.specs.Calls.{entering, offered, effectOn, applied, stepped}
+use Rattle.rendezvous.specs.Calls.{entering, offered, effectOn, applied, stepped, givenUp}
 use Rattle.rendezvous.proofs.Verdicts.{Admitted}
-use Rattle.rendezvous.specs.Run.{Call, Offer, Step, Collect, replyTo, tableAfter}
+use Rattle.rendezvous.specs.Run.{Call, Offer, Step, Collect, Withdraw, replyTo, tableAfter}
 use Rattle.history.proofs.View.{split, View, upd, effected, upd-same, put-view}
 use Rattle.history.proofs.Invariant.{Alone, Paired, Inv, Formed, AllFormed, Good}
 use Rattle.history.proofs.Places.{idle-is}
 use Rattle.history.proofs.Facts.{fine, at-names}
-use Rattle.history.proofs.Keeps.{inv-rule, inv-offered, inv-collected}
+use Rattle.history.proofs.Keeps.{inv-rule, inv-offered, inv-collected, inv-withdrawn}
 use Rattle.history.proofs.Formed.{placed, with-own, formed-rule}
-use Rattle.history.proofs.Replies.{offer-elim, step-elim, collect-elim}
+use Rattle.history.proofs.Replies.{offer-elim, step-elim, collect-elim, withdraw-elim}
 
 -- a list of at most eight guards comes back from the slots that it is lent in
 pub lent-back : (gs : List Guard) → length gs ≤ mostGuards → take (length gs) (slots gs) ≡ gs
@@ -94,11 +94,17 @@ module _ {t : ProcessTable} (good : Good t) (p : ℕ) where
         formed = subst⁻¹ (AllFormed (t .head .n)) (put-one x (a .below)) (with-own (process t) (good .inv) (good .formed) p x (record { posted = good .formed p .posted; signal = rw silent refl; outcome = tt }));
       }
 
+  good-withdrawn : p < t .head .n → isOpen (process t p) ≡ true → Good (put t p (givenUp (process t p)))
+  good-withdrawn h o =
+      let f = good .formed p in
+      good-put _ h (inv-withdrawn (process t) (good .inv) p o) (with-own (process t) (good .inv) (good .formed) p _ (record { posted = f .posted; signal = f .signal; outcome = tt }))
+
 pub good-after : (t : ProcessTable) → Good t → (c : Call) → Good (tableAfter t c)
 unfolding replyTo
 good-after t good (Offer p gs) = offer-elim (λ r. Good (r .table)) t (λ r. good) p gs (good-offered good p gs)
 good-after t good (Step p) = step-elim (λ r. Good (r .table)) t (λ r. good) p (good-stepped good p)
 good-after t good (Collect p) = collect-elim (λ r. Good (r .table)) t (λ r. good) p (λ h i m e. good-put good p _ h (inv-collected (process t) (good .inv) p i m e) (with-own (process t) (good .inv) (good .formed) p _ (placed (good .formed p) Place.Idle tt)))
+good-after t good (Withdraw p) = withdraw-elim (λ r. Good (r .table)) t (λ r. good) p good (good-withdrawn good p)
 
 -- the records of a fresh table
 pub fresh-each : (P : Process → Type 0) → P freshProcess → P nobody → (n p : ℕ) → P (process (freshTable n) p)

@@ -1,8 +1,8 @@
--- Every rule, an accepted offer and a collection keep what holds of each process and of each two.
+-- Every rule, an accepted offer, a collection and a withdrawal keep what holds of each process and of each two.
 use Prim.Native.Nat.{ℕ, suc, _+_, _<_}
 use mathlib.Core.Path.{_≡_, refl, sym, _∙_, subst}
 use mathlib.Core.List.{List}
-use mathlib.Core.Bool.{Bool, true, false, false≢true}
+use mathlib.Core.Bool.{Bool, true, false, false≢true, true≢false}
 use mathlib.Core.Logic.{inl, inr}
 use native.Mathlib.Omega.{arith}
 use lib.ListN.{take}
@@ -15,17 +15,17 @@ use Rattle.process.specs.declared.Signal.{Signal}
 use Rattle.process.specs.declared.Place.{Place}
 use Rattle.process.specs.declared.State.{State}
 use Rattle.process.specs.declared.Process.{Process}
-use Rattle.process.specs.Process.{stateOf, indexOf, ownList, postedList, ownGuard, postedGuard, isIdle}
+use Rattle.process.specs.Process.{stateOf, indexOf, ownList, postedList, ownGuard, postedGuard, isIdle, isOpen}
 use Rattle.process.specs.Rules.{atPlace, withSignal, withAccepting, scanAt, scanFrom, scan, try, handOver, absorb, ruleAt, rule, namedBy, partnerOf}
 use Rattle.process.specs.Fits.{listFits}
 use Rattle.rendezvous.specs.Table.{withNext}
-use Rattle.rendezvous.specs.Calls.{entering}
+use Rattle.rendezvous.specs.Calls.{entering, givenUp}
 use Rattle.rendezvous.specs.declared.Head.{Head}
 use Rattle.history.proofs.View.{split, View, upd, effected, upd-same, upd-other, entered-each, upd-comm}
 use Rattle.history.proofs.Invariant.{Past, Tries, Commits, Shows, Quiet, Waits, On, OnAt, Calm, Shown, Fine, Bound, Inv}
 use Rattle.history.proofs.Matches.{match, Searched, searched, next-view}
 use Rattle.history.proofs.Places.{shows-elim, waits-elim, quiet-elim, absent-present, told-woken}
-use Rattle.history.proofs.Facts.{fine, at-on, at-names, shown, accepts, commit-binds}
+use Rattle.history.proofs.Facts.{fine, at-on, at-names, shown, accepts, silent, commit-binds, open-unbound}
 use Rattle.history.proofs.Tame.{Held, Near, past, trying, Committing, put-inv, held, free, tame, moves}
 
 -- what a scan from guard s on comes to
@@ -155,6 +155,12 @@ module _ {head : Head} (v : View) (inv : Inv head v) (p : ℕ) where
 
   pub inv-collected : (i : ℕ) (m : Message) → v p .place ≡ Place.Met i m → Inv head (upd v p (atPlace (v p) Place.Idle))
   inv-collected i m e = moves v inv p _ e _ _ _ (fine v inv p _ e) tt (search (absurd, free v inv p _ e))
+
+  pub inv-withdrawn : isOpen (v p) ≡ true → Inv head (upd v p (givenUp (v p)))
+  inv-withdrawn o =
+      let unheld : (x : Process) → Held v p → Bound x = λ x h. absurd (open-unbound (v p) o (held v inv p h)) in
+      let still-idle : true ≡ false → isIdle (v p .place) ≡ false = λ b. absurd (true≢false b) in
+      moves v inv p _ refl _ _ _ (refl, silent v inv p o) tt (search (absurd, unheld, still-idle))
 
 module _ {head : Head} (v : View) (inv : Inv head v) (p i j : ℕ) where
   -- the partner first, then the mover

@@ -1,30 +1,39 @@
--- No offer meets twice: in every book, the tickets that have met, the open ones and the next one all differ.
+-- No offer ends twice: in every book, the tickets of its moments, the open ones and the next one all differ.
 use Prim.Native.Nat.{ℕ, suc, _≤_, _<_}
-use mathlib.Core.Path.{_≡_, refl, sym, _∙_, ap}
-use mathlib.Core.List.{List, [], _∷_, _++_}
+use mathlib.Core.Path.{_≡_, refl, sym, _∙_, ap, subst}
+use mathlib.Core.List.{List, [], _∷_, _++_, append-assoc}
 use mathlib.Core.Logic.{_⊎_, inl, inr, ⊎-elim}
 use mathlib.Core.Option.{Option, some, none, Option·some-injective, Option·none-ne-some}
 use native.Mathlib.Omega.{arith}
 use Rattle.alternative.specs.declared.Guard.{Guard}
-use Rattle.history.specs.Book.{Transaction, Rendezvous, Moment, Joined, enteredFor}
+use Rattle.history.specs.Book.{Transaction, Rendezvous, Withdrawal, Moment, Joined, Withdrew, enteredFor}
 use Rattle.history.specs.Demand3.{idsOf, NotIn, AllDiffer}
 use Rattle.history.proofs.View.{entered-each}
 
--- two tickets more at a list's end
+-- one ticket more at a list's end
+module _ (t : ℕ) where
+  not-in-one : (s : ℕ) (ts : List ℕ) → NotIn s ts → (s ≡ t → ⊥) → NotIn s (ts ++ (t ∷ []))
+  not-in-one s [] n a = (a, tt)
+  not-in-one s (r ∷ ts) n a = (n .0, not-in-one s ts (n .1) a)
+
+  differ-one : (ts : List ℕ) → AllDiffer ts → NotIn t ts → AllDiffer (ts ++ (t ∷ []))
+  differ-one [] d a = (tt, tt)
+  differ-one (s ∷ ts) d a = (not-in-one s ts (d .0) (λ e. a .0 (sym e)), differ-one ts (d .1) (a .1))
+
+-- and two
 module _ (t u : ℕ) where
   not-in-more : (s : ℕ) (ts : List ℕ) → NotIn s ts → (s ≡ t → ⊥) → (s ≡ u → ⊥) → NotIn s (ts ++ (t ∷ u ∷ []))
-  not-in-more s [] n a b = (a, (b, tt))
-  not-in-more s (r ∷ ts) n a b = (n .0, not-in-more s ts (n .1) a b)
+  not-in-more s ts n a b = subst (NotIn s) (append-assoc ts (t ∷ []) (u ∷ [])) (not-in-one u s (ts ++ (t ∷ [])) (not-in-one t s ts n a) b)
 
   differ-more : (ts : List ℕ) → (t ≡ u → ⊥) → AllDiffer ts → NotIn t ts → NotIn u ts → AllDiffer (ts ++ (t ∷ u ∷ []))
-  differ-more [] ne d a b = ((ne, tt), (tt, tt))
-  differ-more (s ∷ ts) ne d a b = (not-in-more s ts (d .0) (λ e. a .0 (sym e)) (λ e. b .0 (sym e)), differ-more ts ne (d .1) (a .1) (b .1))
+  differ-more ts ne d a b = subst AllDiffer (append-assoc ts (t ∷ []) (u ∷ [])) (differ-one u (ts ++ (t ∷ [])) (differ-one t ts d a) (not-in-one t u ts b (λ e. ne (sym e))))
 
-ids-more : (ms : List Moment) (r : Rendezvous) → idsOf (ms ++ (Joined r ∷ [])) ≡ idsOf ms ++ (r .idP ∷ r .idQ ∷ [])
-ids-more [] r = refl
-ids-more (Joined s ∷ ms) r = rw (ids-more ms r)
+ids-more : (ms ns : List Moment) → idsOf (ms ++ ns) ≡ idsOf ms ++ idsOf ns
+ids-more [] ns = refl
+ids-more (Joined r ∷ ms) ns = rw (ids-more ms ns)
+ids-more (Withdrew w ∷ ms) ns = rw (ids-more ms ns)
 
--- of a book's next ticket, open offers and rendezvous
+-- of a book's next ticket, open offers and run
 pub record Once (next : ℕ) (opened : ℕ → Option Transaction) (run : List Moment) : Type 0 where
   pub differ : AllDiffer (idsOf run)
   pub unused : (t : ℕ) → next ≤ t → NotIn t (idsOf run)
@@ -66,7 +75,20 @@ module _ {next : ℕ} {opened : ℕ → Option Transaction} {run : List Moment} 
   }
     where
       z : idsOf (run ++ (Joined r ∷ [])) ≡ idsOf run ++ (o .id ∷ s .id ∷ [])
-      z = ids-more run r ∙ rw (a, b)
+      z = ids-more run (Joined r ∷ []) ∙ rw (a, b)
 
       still : (u : ℕ) (c : Transaction) → enteredFor p none (enteredFor q none opened) u ≡ some c → (opened u ≡ some c) × (u ≡ p → ⊥) × (u ≡ q → ⊥)
       still u c g = let a = closed p (enteredFor q none opened) u c g in let d = closed q opened u c (a .0) in (d .0, a .1, d .1)
+
+  -- the offer o of p closes, and its ticket stands in w
+  pub once-withdraws : (p : ℕ) (o : Transaction) (w : Withdrawal) → opened p ≡ some o → w .id ≡ o .id → Once next (enteredFor p none opened) (run ++ (Withdrew w ∷ []))
+  once-withdraws p o w e a = record {
+    differ = rw z (differ-one (o .id) (idsOf run) (k .differ) (k .unmet p o e));
+    unused = λ t l. rw z (not-in-one (o .id) t (idsOf run) (k .unused t l) (λ h. omega (arith, k .below p o e)));
+    below = λ u c h. k .below u c (closed p opened u c h .0);
+    unmet = λ u c h. let d = closed p opened u c h in rw z (not-in-one (o .id) (c .id) (idsOf run) (k .unmet u c (d .0)) (k .apart u p c o (d .1) (d .0) e));
+    apart = λ u w c d l g h. k .apart u w c d l (closed p opened u c g .0) (closed p opened w d h .0);
+  }
+    where
+      z : idsOf (run ++ (Withdrew w ∷ [])) ≡ idsOf run ++ (o .id ∷ [])
+      z = ids-more run (Withdrew w ∷ []) ∙ rw a

@@ -8,7 +8,7 @@ use Rattle.alternative.specs.declared.Message.{Message}
 use Rattle.alternative.specs.declared.Guard.{Guard}
 use Rattle.process.specs.declared.Signal.{Signal}
 use Rattle.process.specs.declared.Place.{Place}
-use Rattle.process.specs.Process.{isIdle}
+use Rattle.process.specs.Process.{isIdle, openAt}
 use Rattle.process.proofs.PlaceCases.{if-committed}
 use Rattle.history.proofs.Invariant.{Commits, Shows, Quiet, Waits, Fine}
 
@@ -71,6 +71,20 @@ accepting-shows Place.Showing gs hs a s f e = tt
 accepting-shows Place.Asleep gs hs a s f e = false≢true (sym (f .0) ∙ e)
 accepting-shows Place.Waiting gs hs a s f e = tt
 accepting-shows (Place.Met i m) gs hs a s f e = false≢true (sym (f .0) ∙ e)
+
+-- an open offer has no signal
+pub open-silent : (pl : Place) (gs hs : List Guard) (accepting : Bool) (signal : Signal) → Fine pl gs hs accepting signal → openAt pl accepting ≡ true → signal ≡ Signal.Absent
+open-silent Place.Idle gs hs a s f o = absurd (false≢true o)
+open-silent Place.Entering gs hs a s f o = f .1
+open-silent (Place.Scanning i) gs hs a s f o = f .1
+open-silent (Place.Trying i) gs hs a s f o = f .1
+open-silent (Place.Committed i j) gs hs a s f o = absurd (false≢true o)
+open-silent Place.Posting gs hs a s f o = f .1
+open-silent Place.Opening gs hs a s f o = f .0 .1
+open-silent Place.Showing gs hs a s f o = f .deaf o
+open-silent Place.Asleep gs hs a s f o = f .1
+open-silent Place.Waiting gs hs a s f o = f .deaf o
+open-silent (Place.Met i m) gs hs a s f o = absurd (false≢true o)
 
 -- at I
 pub idle-is : (pl : Place) → isIdle pl ≡ true → pl ≡ Place.Idle

@@ -1,8 +1,8 @@
--- To be believed. Document 01, "The plain book".
+-- To be believed. Document 01, "The plain book", and what CR 1 of document 02 says of it.
 use Rattle.alternative.specs.Guards.{keptMatch}
 use Rattle.alternative.specs.Exchange.{sentBy}
-use Rattle.rendezvous.specs.Numbers.{Said, made, ticket, place, same, outcome, movers, refusal}
-use Rattle.rendezvous.specs.Run.{Call, Offer, Step, Collect}
+use Rattle.rendezvous.specs.Numbers.{Said, made, ticket, place, same, outcome, withdrawn, tooLate, movers, refusal}
+use Rattle.rendezvous.specs.Run.{Call, Offer, Step, Collect, Withdraw}
 use Rattle.history.specs.Types.{ℕ, suc, code, Bool, true, false, cond, List, [], _∷_, _++_, Option, some, none, getElem?, eqb, Message, Action, Guard}
 use Rattle.history.specs.Types.{Found}
 
@@ -26,9 +26,15 @@ pub record Rendezvous : Type 0 where
   pub j : ℕ
   pub message : Message
 
--- the run of whole meetings: each moment of it is a meeting
+-- a withdrawal "takes a moment of its own in the run of whole meetings": the party, and the ticket of its offer
+pub record Withdrawal : Type 0 where
+  pub p : ℕ
+  pub id : ℕ
+
+-- the run of whole meetings: each moment of it is a meeting or a withdrawal
 pub data Moment : Type 0 where
   Joined : Rendezvous → Moment
+  Withdrew : Withdrawal → Moment
 
 pub record History : Type 0 where
   pub next : ℕ
@@ -40,11 +46,13 @@ pub record History : Type 0 where
 abbrev pub emptyHistory : History
 emptyHistory = record { next = 0; opened = λ p. none; due = λ p. none; run = [] }
 
--- "It is fed each call's arguments other than the desk, whether the call was refused, and the place that a step answers; it sees nothing of the desk."
+-- "It is fed each call's arguments other than the desk, whether the call was refused, and the place that a step answers; it sees nothing of the desk." And
+-- whether a withdrawal is "answered "withdrawn""
 pub data Seen : Type 0 where
   refused : Seen
   accepted : Seen
   at : ℕ → Option ℕ → Seen
+  takenBack : Seen
 
 abbrev pub seen : Said → Seen
 seen (refusal number) = refused
@@ -53,6 +61,8 @@ seen made = accepted
 seen (ticket t) = accepted
 seen same = accepted
 seen (outcome i q m) = accepted
+seen withdrawn = takenBack
+seen tooLate = accepted
 seen (movers set) = accepted
 
 -- "Where an entry lacks what it needs, the book is stuck": none.
@@ -118,12 +128,23 @@ abbrev collecting : History → ℕ → Option Due → Option History
 collecting b p none = none
 collecting b p (some d) = some (record { next = b .next; opened = b .opened; due = enteredFor p none (b .due); run = b .run })
 
--- the book after a call; "every refused call: nothing changes"
+-- A withdrawal of p "answered "withdrawn" closes the party's open offer in the book and takes a moment of its own in the run".
+abbrev withdrawing : History → ℕ → Option Transaction → Option History
+withdrawing b p none = none
+withdrawing b p (some o) = some (record { next = b .next; opened = enteredFor p none (b .opened); due = b .due; run = b .run ++ (Withdrew (record { p = p; id = o .id }) ∷ []) })
+
+-- the book after a call; "every refused call: nothing changes"; of withdrawals, "any other leaves the book as it was"
 unfoldable pub enter : History → Call → Seen → Option History
 enter b c refused = some b
 enter b (Offer p gs) accepted = offering b p gs (b .opened p) (b .due p)
 enter b (Offer p gs) (at letter index) = none
+enter b (Offer p gs) takenBack = none
 enter b (Step p) accepted = some b
 enter b (Step p) (at letter index) = stepping b p (eqb letter (code "C")) index
+enter b (Step p) takenBack = none
 enter b (Collect p) accepted = collecting b p (b .due p)
 enter b (Collect p) (at letter index) = none
+enter b (Collect p) takenBack = none
+enter b (Withdraw p) accepted = some b
+enter b (Withdraw p) (at letter index) = none
+enter b (Withdraw p) takenBack = withdrawing b p (b .opened p)

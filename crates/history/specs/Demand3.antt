@@ -1,10 +1,11 @@
--- To be believed. Demand 3 of document 00: one claim about every list of offers, steps and collections, stated over any machine; `Demand3` is that of the tables of document 01.
+-- To be believed. Demand 3 of document 00, with the withdrawals of CR 1 of document 02: one claim about every list of offers, steps, collections and withdrawals, stated over any
+-- machine; `Demand3` is that of the tables.
 use Rattle.alternative.specs.Guards.{guardsMatch, offersMatch}
 use Rattle.rendezvous.specs.Table.{mostProcesses, freshTable}
 use Rattle.rendezvous.specs.Numbers.{Said, ticket, outcome, refusal}
-use Rattle.rendezvous.specs.Run.{Call, Offer, Step, Collect, afterAll}
+use Rattle.rendezvous.specs.Run.{Call, Offer, Step, Collect, Withdraw, afterAll}
 use Rattle.history.specs.Types.{ℕ, _≤_, _≡_, true, false, List, [], _∷_, _++_, _⊎_, some, getElem?, Guard}
-use Rattle.history.specs.Book.{Transaction, Due, Rendezvous, Moment, Joined, History, emptyHistory}
+use Rattle.history.specs.Book.{Transaction, Due, Rendezvous, Moment, Joined, Withdrew, History, emptyHistory}
 use Rattle.history.specs.Machine.{Machine, bookAfterAll, madeByAll, EachCall}
 use Rattle.history.specs.Tables.{tables}
 
@@ -31,6 +32,7 @@ abbrev pub TicketIsNext : History → Call → Said → History → Type 0
 TicketIsNext b (Offer p gs) says after = ((number : ℕ) × (says ≡ refusal number)) ⊎ (says ≡ ticket (b .next))
 TicketIsNext b (Step p) says after = Unit {0}
 TicketIsNext b (Collect p) says after = Unit {0}
+TicketIsNext b (Withdraw p) says after = Unit {0}
 
 -- a collection is refused, or gives what was due. "f32 values are compared by their bits": ≡ on messages does so, for the logic's floats are bits but for the one NaN,
 -- and refusal 5 keeps NaNs out of every accepted offer.
@@ -39,11 +41,13 @@ OutcomeWasDue b (Collect p) says after =
     ((number : ℕ) × (says ≡ refusal number)) ⊎ ((d : Due) × (b .due p ≡ some d) × (says ≡ outcome (d .index) (d .partner) (d .message)))
 OutcomeWasDue b (Offer p gs) says after = Unit {0}
 OutcomeWasDue b (Step p) says after = Unit {0}
+OutcomeWasDue b (Withdraw p) says after = Unit {0}
 
--- "no ticket stands in two meetings"
+-- "no ticket stands in two meetings", nor in a meeting and a withdrawal, nor in two withdrawals: the tickets of all moments
 abbrev pub idsOf : List Moment → List ℕ
 idsOf [] = []
 idsOf (Joined r ∷ ms) = r .idP ∷ r .idQ ∷ idsOf ms
+idsOf (Withdrew w ∷ ms) = w .id ∷ idsOf ms
 
 abbrev pub NotIn : ℕ → List ℕ → Type 0
 NotIn t [] = Unit {0}
@@ -62,7 +66,7 @@ pub record Claim (m : Machine) (s : m .State) (b : History) (calls : List Call) 
   pub run : book .run ≡ b .run ++ madeByAll m s calls
   -- "Each joins two tasks whose offers are both open at that moment, on enabled guards that name each other, one sending and one receiving."
   pub joins : EachCall m EntryJoins s b calls
-  -- "No offer meets twice."
+  -- "No offer meets twice.", one that was withdrawn never meets, and one that met is never withdrawn.
   pub once : AllDiffer (idsOf (book .run))
   -- "Every accepted offer got the book's ticket, every accepted collection gave exactly the guard, partner and message that the book had due for that task, and the
   -- desk's open offers are the book's, alike in party, ticket and list."
@@ -73,7 +77,7 @@ pub record Claim (m : Machine) (s : m .State) (b : History) (calls : List Call) 
   pub rests : m .Rests (afterAll (m .after) s calls) → (p q : ℕ) (o r : Transaction) → (p ≡ q → ⊥)
       → m .opened (afterAll (m .after) s calls) p ≡ some o → m .opened (afterAll (m .after) s calls) q ≡ some r → offersMatch p (o .guards) q (r .guards) ≡ false
 
--- "For every list of offers, steps and collections, in any order and with refused ones among them, from any fresh desk, where each call gets the desk that the last one
+-- "Withdrawals join demand 3's list". "For every list of offers, steps and collections, in any order and with refused ones among them, from any fresh desk, where each call gets the desk that the last one
 -- handed back, the following holds after the list."
 abbrev pub Demand3 : Type 0
 Demand3 = (n : ℕ) → 2 ≤ n → n ≤ mostProcesses → (calls : List Call) → Claim tables (freshTable n) emptyHistory calls

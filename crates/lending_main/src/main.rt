@@ -47,6 +47,8 @@ fn print_answer(answer: Answer) {
         Answer::Moved(_) => print(b"moved"),
         Answer::Unchanged => print(b"unchanged"),
         Answer::Collected(_, _, _) => print(b"collected"),
+        Answer::Withdrawn => print(b"withdrawn"),
+        Answer::TooLate => print(b"too late"),
         Answer::Runnable(_) => print(b"runnable"),
     }
 }

@@ -8,6 +8,8 @@ fn number(answer: Answer) -> u64 {
         Answer::Moved(_) => 2,
         Answer::Unchanged => 3,
         Answer::Collected(_, partner, _) => partner as u64,
+        Answer::Withdrawn => 4,
+        Answer::TooLate => 5,
         Answer::Runnable(set) => set as u64,
         Answer::Refused(_) => 1000000007,
     }

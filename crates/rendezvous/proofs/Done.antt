@@ -1,14 +1,14 @@
 -- Laws of acts: carried out on the table that was read, an act is the call.
 use Prim.Native.Nat.{ℕ, _+_, _%_}
 use mathlib.Core.Path.{_≡_, refl, sym, ap, _∙_}
-use mathlib.Core.Bool.{Bool, true, false}
+use mathlib.Core.Bool.{Bool, true, false, not, cond}
 use mathlib.Core.List.{List}
 use lib.ListN.{set}
 use lib.Seq.{set-getD}
 use lib.Dec.{ltb}
 use Rattle.alternative.specs.declared.GuardList.{GuardList}
 use Rattle.process.specs.declared.Signal.{Signal}
-use Rattle.process.specs.Process.{nobody}
+use Rattle.process.specs.Process.{isAt, nobody}
 use Rattle.process.specs.Rules.{Effect, Neither, Own, Both, changed, rule, partnerOf}
 use Rattle.process.specs.InCode.{changeOf, outcomeOf}
 use Rattle.process.proofs.PlaceCases.{both-carried}
@@ -17,9 +17,9 @@ use Rattle.rendezvous.specs.declared.Act.{Act}
 use Rattle.rendezvous.specs.Types.{Place, Process, Head, ProcessTable, Refusal, Verdict, Answer, Reply}
 use Rattle.rendezvous.specs.Table.{mostProcesses, process, put, withNext}
 use Rattle.rendezvous.specs.WellFormed.{wellFormed}
-use Rattle.rendezvous.specs.Refusals.{require, processTests, processVerdict, listVerdict, stateVerdict, offerTests, offerVerdict}
-use Rattle.rendezvous.specs.Calls.{ifAccepted, entering, offered, offerList, effectOn, applied, stepped, step, collected, collect}
-use Rattle.rendezvous.specs.Acts.{alone, unlessRefused, offerAct, movedAct, stepAct, collectedAct, collectAct, done, ActsAreCalls}
+use Rattle.rendezvous.specs.Refusals.{require, processTests, processVerdict, listVerdict, stateVerdict, offerTests, offerVerdict, withdrawTests, withdrawVerdict}
+use Rattle.rendezvous.specs.Calls.{ifAccepted, entering, offered, offerList, effectOn, applied, stepped, step, collected, collect, commitCameFirst, givenUp, withdraw}
+use Rattle.rendezvous.specs.Acts.{alone, unlessRefused, offerAct, movedAct, stepAct, collectedAct, collectAct, withdrawnAct, withdrawAct, done, ActsAreCalls}
 use Rattle.rendezvous.proofs.Steps.{inside}
 
 -- an act that changes nothing: what was read is written again
@@ -48,12 +48,19 @@ module _ (t : ProcessTable) (p : ℕ) where
       let refused = nothing-done t p q (Answer.Refused Refusal.NotMet) in
       both-carried (λ s r. done t p q (collectedAct (t .head) (process t p) s) ≡ r) _ _ _ _ _ _ _ _ place refused (λ i e. refused) (λ i j e. refused) (λ i m e. refl)
 
+  withdrawn-done : (q : ℕ) (first : Bool) → let x = process t p in done t p q (cond first (alone Answer.TooLate (t .head) x) (alone Answer.Withdrawn (t .head) (givenUp x)))
+      ≡ cond first (record { answer = Answer.TooLate; table = t }) (record { answer = Answer.Withdrawn; table = put t p (givenUp x) })
+  unfolding done
+  withdrawn-done q true = nothing-done t p q Answer.TooLate
+  withdrawn-done q false = refl
+
 pub acts-are-calls : ActsAreCalls
-unfolding done offerAct stepAct collectAct processVerdict offerVerdict offerList offered step stepped effectOn collect
+unfolding done offerAct stepAct collectAct withdrawAct processVerdict offerVerdict withdrawVerdict offerList offered step stepped effectOn collect withdraw
 acts-are-calls = record {
   offers = λ t p q list. if-done t p q (offerVerdict t p list) _ (offered t p list) refl;
   steps = λ t p. let x = process t p in let q = partnerOf x in if-done t p q (processVerdict t p) _ _ (applied-done t p q (rule p x q (process t q)) (rule-only-told p x q (process t q)));
   collects = λ t p q. if-done t p q (processVerdict t p) _ _ (collected-done t p q (process t p .place));
+  withdraws = λ t p q. if-done t p q (withdrawVerdict t p) _ _ (withdrawn-done t p q (commitCameFirst (process t p .place) (process t p .accepting)));
 }
 
 -- as the code carries an act out: the partner's record, where it is told something, then the own record and the head
@@ -82,7 +89,7 @@ at-places t p q i j rest act same = go (wellFormed t) refl (ltb p (t .head .n)) 
     go true e false f = nothing-done t i j (Answer.Refused Refusal.NoSuchProcess) ∙ sym (nothing-done t p q (Answer.Refused Refusal.NoSuchProcess))
     go false e b f = nothing-done t i j (Answer.Refused Refusal.NotWellFormed) ∙ sym (nothing-done t p q (Answer.Refused Refusal.NotWellFormed))
 
--- an offer and a collection tell no partner
+-- an offer, a collection and a withdrawal tell no partner
 if-untold : (v : Verdict) (h : Head) (x : Process) (act : Act) → act .told ≡ false → unlessRefused v h x act .told ≡ false
 if-untold Verdict.Accepted h x act e = e
 if-untold (Verdict.Refused r) h x act e = refl
@@ -90,6 +97,10 @@ if-untold (Verdict.Refused r) h x act e = refl
 collected-untold : (h : Head) (x : Process) (outcome : Signal) → collectedAct h x outcome .told ≡ false
 collected-untold h x (Signal.Present i m) = refl
 collected-untold h x Signal.Absent = refl
+
+withdrawn-untold : (h : Head) (x : Process) (first : Bool) → cond first (alone Answer.TooLate h x) (alone Answer.Withdrawn h (givenUp x)) .told ≡ false
+withdrawn-untold h x true = refl
+withdrawn-untold h x false = refl
 
 -- from what the code has read: the act, carried out where it was read, is the call
 module _ (t : ProcessTable) (p : ℕ) (formed : Bool) (form : formed ≡ wellFormed t) (act : Act) where
@@ -127,3 +138,14 @@ module _ (t : ProcessTable) (p : ℕ) (formed : Bool) (form : formed ≡ wellFor
   pub collect-written : act ≡ collectAct formed (t .head) p x → written ≡ collect t p
   unfolding collectAct
   collect-written e = done-own t t (p % mostProcesses) 0 act (rw e (if-untold (processTests formed (t .head .n) p Verdict.Accepted) (t .head) x _ (collected-untold (t .head) x (outcomeOf (x .place))))) refl ∙ collect-done 0 e
+
+  pub withdraw-done : (j : ℕ) → act ≡ withdrawAct formed (t .head) p x → done t (p % mostProcesses) j act ≡ withdraw t p
+  unfolding withdrawAct
+  withdraw-done j e =
+      rw (e, form)
+      (at-places t p j (p % mostProcesses) j (λ x. require (not (isAt "IM" (x .place))) Refusal.NothingOffered Verdict.Accepted) (λ x y. withdrawnAct (t .head) x) (λ a. (inside t p a .own, refl))
+      ∙ acts-are-calls .withdraws t p j)
+
+  pub withdraw-written : act ≡ withdrawAct formed (t .head) p x → written ≡ withdraw t p
+  unfolding withdrawAct
+  withdraw-written e = done-own t t (p % mostProcesses) 0 act (rw e (if-untold (withdrawTests formed (t .head .n) p (x .place)) (t .head) x _ (withdrawn-untold (t .head) x (commitCameFirst (x .place) (x .accepting))))) refl ∙ withdraw-done 0 e

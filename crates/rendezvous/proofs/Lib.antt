@@ -6,3 +6,4 @@ pub mod Movers
 pub mod Sets
 pub mod Steps
 pub mod Verdicts
+pub mod Withdrawals

@@ -1,7 +1,7 @@
 -- What a call that is not turned away has passed, and that tests in order either hand on to what follows or stop there.
 use Prim.Native.Nat.{ℕ, _≤_, _<_}
 use mathlib.Core.Path.{_≡_, refl, sym, _∙_}
-use mathlib.Core.Bool.{Bool, true, false, not, _&&_}
+use mathlib.Core.Bool.{Bool, true, false, not, _&&_, false≢true}
 use mathlib.Core.List.{List, [], _∷_}
 use native.Mathlib.Omega.{arith}
 use lib.ListN.{take}
@@ -18,9 +18,10 @@ use Rattle.rendezvous.specs.declared.Verdict.{Verdict}
 use Rattle.rendezvous.specs.Table.{lastTransaction, process}
 use Rattle.rendezvous.specs.WellFormed.{wellFormed}
 use Rattle.alternative.proofs.Tests.{and-parts}
-use Rattle.process.specs.Process.{isIdle}
+use Rattle.process.specs.Process.{isAt, isIdle, openAt}
 use Rattle.process.specs.Fits.{allGuards, partnerFits}
-use Rattle.rendezvous.specs.Refusals.{require, requireGuards, processVerdict, listVerdict, stateVerdict, offerTests, offerVerdict}
+use Rattle.rendezvous.specs.Refusals.{require, requireGuards, processTests, processVerdict, listVerdict, stateVerdict, offerTests, offerVerdict, withdrawVerdict}
+use Rattle.rendezvous.specs.Calls.{commitCameFirst}
 
 never : (r : Refusal) → Verdict.Accepted ≡ Verdict.Refused r → ⊥
 never r e = let z : _≡_ {A = ℕ} 0 1 = cc in omega arith
@@ -91,6 +92,34 @@ pub offer-passed : (t : ProcessTable) (p : ℕ) (list : GuardList) → offerVerd
 unfolding offerVerdict
 offer-passed t p list e = tests-passed (wellFormed t) (t .head) p list (process t p .place) (offerVerdict t p list) refl e
 
+-- what a withdrawal has passed: the process is neither at I nor at M
+pub record Busy (t : ProcessTable) (p : ℕ) : Type 0 where
+  pub formed : wellFormed t ≡ true
+  pub below : p < t .head .n
+  pub elsewhere : not (isAt "IM" (process t p .place)) ≡ true
+
+pub withdraw-passed : (t : ProcessTable) (p : ℕ) → withdrawVerdict t p ≡ Verdict.Accepted → Busy t p
+unfolding withdrawVerdict
+withdraw-passed t p e =
+    let a = passed (wellFormed t) Refusal.NotWellFormed _ e in
+    let b = passed (ltb p (t .head .n)) Refusal.NoSuchProcess _ (a .1) in
+    let c = passed (not (isAt "IM" (process t p .place))) Refusal.NothingOffered _ (b .1) in
+    record { formed = a .0; below = ltb-true p (t .head .n) (b .0); elsewhere = c .0 }
+
+-- there a commit came first exactly where the offer is no longer open
+pub first-closed : (place : Place) (accepting : Bool) → not (isAt "IM" place) ≡ true → commitCameFirst place accepting ≡ not (openAt place accepting)
+first-closed Place.Idle accepting e = absurd (false≢true e)
+first-closed Place.Entering accepting e = refl
+first-closed (Place.Scanning i) accepting e = refl
+first-closed (Place.Trying i) accepting e = refl
+first-closed (Place.Committed i j) accepting e = refl
+first-closed Place.Posting accepting e = refl
+first-closed Place.Opening accepting e = refl
+first-closed Place.Showing accepting e = refl
+first-closed Place.Asleep accepting e = refl
+first-closed Place.Waiting accepting e = refl
+first-closed (Place.Met i m) accepting e = absurd (false≢true e)
+
 -- Tests in order: all hand on to the verdict that follows, or one stops there whatever follows.
 pub data Tests (F : Verdict → Verdict) : Type 0 where
   pass : ((rest : Verdict) → F rest ≡ rest) → Tests F
@@ -104,6 +133,9 @@ then-tests : (F G : Verdict → Verdict) → Tests F → Tests G → Tests (λ r
 then-tests F G (pass f) (pass g) = pass (λ rest. f (G rest) ∙ g rest)
 then-tests F G (pass f) (stop r g) = stop r (λ rest. f (G rest) ∙ g rest)
 then-tests F G (stop r f) g = stop r (λ rest. f (G rest))
+
+process-tests : (formed : Bool) (n p : ℕ) → Tests (processTests formed n p)
+process-tests formed n p = then-tests _ _ (require-tests formed Refusal.NotWellFormed) (require-tests (ltb p n) Refusal.NoSuchProcess)
 
 guards-tests : (n p : ℕ) (gs : List Guard) → Tests (requireGuards n p gs)
 unfolding requireGuards
@@ -138,3 +170,9 @@ list-pass n p list rest e = all-pass (listVerdict n p list) (list-tests n p list
 
 pub list-stop : (n p : ℕ) (list : GuardList) (r : Refusal) (rest : Verdict) → Verdict.Refused r ≡ listVerdict n p list Verdict.Accepted → listVerdict n p list rest ≡ Verdict.Refused r
 list-stop n p list r rest e = one-stops (listVerdict n p list) (list-tests n p list) r (sym e) rest
+
+pub process-pass : (formed : Bool) (n p : ℕ) (rest : Verdict) → Verdict.Accepted ≡ processTests formed n p Verdict.Accepted → processTests formed n p rest ≡ rest
+process-pass formed n p rest e = all-pass (processTests formed n p) (process-tests formed n p) (sym e) rest
+
+pub process-stop : (formed : Bool) (n p : ℕ) (r : Refusal) (rest : Verdict) → Verdict.Refused r ≡ processTests formed n p Verdict.Accepted → processTests formed n p rest ≡ Verdict.Refused r
+process-stop formed n p r rest e = one-stops (processTests formed n p) (process-tests formed n p) r (sym e) rest

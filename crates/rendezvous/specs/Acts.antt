@@ -9,8 +9,8 @@ use Rattle.rendezvous.specs.declared.Act.{Act}
 use Rattle.rendezvous.specs.Types.{ℕ, _+_, _≡_, Bool, false, cond, set, GuardList, Place, Process, Head, ProcessTable, Refusal, Verdict, Answer, Reply}
 use Rattle.rendezvous.specs.Table.{process, withNext}
 use Rattle.rendezvous.specs.WellFormed.{wellFormed}
-use Rattle.rendezvous.specs.Refusals.{processTests, offerTests}
-use Rattle.rendezvous.specs.Calls.{entering, offerList, step, collect}
+use Rattle.rendezvous.specs.Refusals.{processTests, offerTests, withdrawTests}
+use Rattle.rendezvous.specs.Calls.{entering, offerList, step, collect, commitCameFirst, givenUp, withdraw}
 
 -- an act that tells the partner nothing
 abbrev pub alone : Answer → Head → Process → Act
@@ -42,6 +42,14 @@ collectedAct h x Signal.Absent = alone (Answer.Refused Refusal.NotMet) h x
 unfoldable pub collectAct : Bool → Head → ℕ → Process → Act
 collectAct formed h p x = unlessRefused (processTests formed (h .n) p Verdict.Accepted) h x (collectedAct h x (outcomeOf (x .place)))
 
+-- Withdraw. "At C, or at H or W with wake count 1, a commit came first: the answer is "too late" and nothing changes. Elsewhere the wake count becomes 1, the party goes to I, and the
+-- answer is "withdrawn"."
+abbrev pub withdrawnAct : Head → Process → Act
+withdrawnAct h x = cond (commitCameFirst (x .place) (x .accepting)) (alone Answer.TooLate h x) (alone Answer.Withdrawn h (givenUp x))
+
+unfoldable pub withdrawAct : Bool → Head → ℕ → Process → Act
+withdrawAct formed h p x = unlessRefused (withdrawTests formed (h .n) p (x .place)) h x (withdrawnAct h x)
+
 -- How an act of p is carried out: the table with the act's head, with what the partner q is told, if anything, and with the own record.
 unfoldable pub done : ProcessTable → ℕ → ℕ → Act → Reply
 done t p q act = record {
@@ -52,8 +60,9 @@ done t p q act = record {
   };
 }
 
--- Carried out on the table that was read, the act is the call. An offer and a collection tell no partner: q may be any.
+-- Carried out on the table that was read, the act is the call. An offer, a collection and a withdrawal tell no partner: q may be any.
 pub record ActsAreCalls : Type 0 where
   pub offers : (t : ProcessTable) (p q : ℕ) (list : GuardList) → done t p q (offerAct (wellFormed t) (t .head) p (process t p) list) ≡ offerList t p list
   pub steps : (t : ProcessTable) (p : ℕ) → let x = process t p in let q = partnerOf x in done t p q (stepAct (wellFormed t) (t .head) p x q (process t q)) ≡ step t p
   pub collects : (t : ProcessTable) (p q : ℕ) → done t p q (collectAct (wellFormed t) (t .head) p (process t p)) ≡ collect t p
+  pub withdraws : (t : ProcessTable) (p q : ℕ) → done t p q (withdrawAct (wellFormed t) (t .head) p (process t p)) ≡ withdraw t p

@@ -1,11 +1,11 @@
--- To be believed. Document 01, "Calls": what each call answers, and the table that it hands back.
+-- To be believed. Document 01, "Calls", and CR 1 of document 02: what each call answers, and the table that it hands back.
 use Rattle.alternative.specs.Guards.{slots, lent}
-use Rattle.process.specs.Process.{ifMet, ownGuard}
-use Rattle.process.specs.Rules.{Effect, Neither, Own, Both, atPlace, rule, partnerOf}
-use Rattle.rendezvous.specs.Types.{ℕ, _+_, _≡_, List, set, take, Guard, GuardList, TransactionId, Place, Process, ProcessTable, Refusal, Verdict, Answer}
+use Rattle.process.specs.Process.{isAt, ifMet, ownGuard}
+use Rattle.process.specs.Rules.{Effect, Neither, Own, Both, changed, atPlace, rule, partnerOf}
+use Rattle.rendezvous.specs.Types.{ℕ, _+_, _≡_, Bool, false, not, _&&_, _||_, cond, List, set, take, Guard, GuardList, TransactionId, Place, Process, ProcessTable, Refusal, Verdict, Answer}
 use Rattle.rendezvous.specs.Types.{Reply}
 use Rattle.rendezvous.specs.Table.{process, put, withNext, freshTable}
-use Rattle.rendezvous.specs.Refusals.{createVerdict, processVerdict, offerVerdict}
+use Rattle.rendezvous.specs.Refusals.{createVerdict, processVerdict, offerVerdict, withdrawVerdict}
 
 -- A refusal "returns its number and the desk received, bit for bit."
 abbrev pub refused : Refusal → ProcessTable → Reply
@@ -59,6 +59,20 @@ collected t p x place = ifMet (refused Refusal.NotMet t)
 
 unfoldable pub collect : ProcessTable → ℕ → Reply
 collect t p = let x = process t p in ifAccepted (processVerdict t p) t (collected t p x (x .place))
+
+-- Withdraw, CR 1. "At C, or at H or W with wake count 1, a commit came first: the answer is "too late" and nothing changes." ..
+abbrev pub commitCameFirst : Place → Bool → Bool
+commitCameFirst place accepting = isAt "C" place || (isAt "HW" place && not accepting)
+
+-- .. "Elsewhere the wake count becomes 1, the party goes to I, and the answer is "withdrawn"."
+abbrev pub givenUp : Process → Process
+givenUp x = changed x Place.Idle (x .signal) false
+
+abbrev pub withdrawn : ProcessTable → ℕ → Process → Reply
+withdrawn t p x = cond (commitCameFirst (x .place) (x .accepting)) (record { answer = Answer.TooLate; table = t }) (record { answer = Answer.Withdrawn; table = put t p (givenUp x) })
+
+unfoldable pub withdraw : ProcessTable → ℕ → Reply
+withdraw t p = ifAccepted (withdrawVerdict t p) t (withdrawn t p (process t p))
 
 -- "no task's step would change the desk"
 abbrev pub Quiescent : ProcessTable → Type 0

@@ -8,4 +8,5 @@ pub mod Acts
 pub mod Movers
 pub mod Numbers
 pub mod Run
+pub mod Withdrawals
 pub mod Commands

@@ -1,4 +1,4 @@
--- To be believed. Document 01's numbers and values for each case of an answer.
+-- To be believed. Document 01's numbers and values for each case of an answer, and those of CR 1 of document 02.
 use Rattle.process.specs.Process.{letterOf, indexOf}
 use Rattle.rendezvous.specs.Types.{ℕ, Option, Message, Refusal, Answer}
 
@@ -14,14 +14,18 @@ refusalNumber Refusal.NoneEnabled = 6
 refusalNumber Refusal.NotIdle = 11
 refusalNumber Refusal.LastTransaction = 12
 refusalNumber Refusal.NotMet = 13
+-- CR 1
+refusalNumber Refusal.NothingOffered = 14
 
--- What an answer says: a place by its letter, "with the guard index at A, T and C"; an outcome by guard index, partner and message.
+-- What an answer says: a place by its letter, "with the guard index at A, T and C"; an outcome by guard index, partner and message; of a withdrawal "withdrawn" or "too late".
 pub data Said : Type 0 where
   made : Said
   ticket : ℕ → Said
   place : ℕ → Option ℕ → Said
   same : Said
   outcome : ℕ → ℕ → Message → Said
+  withdrawn : Said
+  tooLate : Said
   movers : ℕ → Said
   refusal : ℕ → Said
 
@@ -31,5 +35,7 @@ said (Answer.Offered t) = ticket (t .0)
 said (Answer.Moved at) = place (letterOf at) (indexOf at)
 said Answer.Unchanged = same
 said (Answer.Collected i q m) = outcome i q m
+said Answer.Withdrawn = withdrawn
+said Answer.TooLate = tooLate
 said (Answer.Runnable set) = movers set
 said (Answer.Refused r) = refusal (refusalNumber r)

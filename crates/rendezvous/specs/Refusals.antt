@@ -1,7 +1,7 @@
--- To be believed. Document 01, "What turns a call away": what each call is tested for, in order. 13, of a collection alone, is in Calls.
+-- To be believed. Document 01, "What turns a call away": what each call is tested for, in order. 13, of a collection alone, is in Calls. And CR 1 of document 02.
 use Rattle.alternative.specs.Guards.{mostGuards, anyGuard}
 use Rattle.alternative.specs.Exchange.{actionHoldsNan}
-use Rattle.process.specs.Process.{isIdle}
+use Rattle.process.specs.Process.{isAt, isIdle}
 use Rattle.process.specs.Fits.{partnerFits}
 use Rattle.rendezvous.specs.Types.{ℕ, Bool, true, false, not, _&&_, List, [], _∷_, take, ltb, leb, Guard, GuardList, TransactionId, Place, Head}
 use Rattle.rendezvous.specs.Types.{ProcessTable, Refusal, Verdict}
@@ -55,3 +55,10 @@ offerTests formed h p list place = processTests formed (h .n) p (listVerdict (h 
 
 unfoldable pub offerVerdict : ProcessTable → ℕ → GuardList → Verdict
 offerVerdict t p list = offerTests (wellFormed t) (t .head) p list (process t p .place)
+
+-- CR 1, a withdrawal: "After 7 and 2, a party at I or M is turned away by 14."
+abbrev pub withdrawTests : Bool → ℕ → ℕ → Place → Verdict
+withdrawTests formed n p place = processTests formed n p (require (not (isAt "IM" place)) Refusal.NothingOffered Verdict.Accepted)
+
+unfoldable pub withdrawVerdict : ProcessTable → ℕ → Verdict
+withdrawVerdict t p = withdrawTests (wellFormed t) (t .head .n) p (process t p .place)

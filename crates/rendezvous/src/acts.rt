@@ -8,6 +8,7 @@ use crate::Refusal;
 use crate::Verdict;
 use crate::refusals::offer_verdict;
 use crate::refusals::process_verdict;
+use crate::refusals::withdraw_verdict;
 use alternative::GuardList;
 use alternative::blanked;
 use process::Place;
@@ -19,8 +20,8 @@ use process::rule;
 ghost use Prim.Native.Nat.{_≤_};
 ghost use mathlib.Core.Path.{_≡_};
 ghost use mathlib.Core.Bool.{cond};
-ghost use Rattle.rendezvous.specs.Calls.{entering};
-ghost use Rattle.rendezvous.specs.Acts.{alone, offerAct, stepAct, collectAct};
+ghost use Rattle.rendezvous.specs.Calls.{entering, commitCameFirst, givenUp};
+ghost use Rattle.rendezvous.specs.Acts.{alone, offerAct, stepAct, collectAct, withdrawAct};
 
 // The partner is told nothing.
 pub fn alone(answer: Answer, head: Head, own: Process) -> Act
@@ -121,5 +122,37 @@ pub fn collect_act(formed: bool, head: Head, p: u8, x: Process) -> Act
                 alone(answer, head, x.at_place(Place::Idle))
             }
         },
+    }
+}
+
+// At C, or at H or W with wake count 1.
+fn commit_came_first(place: Place, accepting: bool) -> bool
+    ensures { λ r. ⌜ r ≡ commitCameFirst place accepting ⌝ }
+{
+    let letter = place.letter();
+    (letter == b'C') | (((letter == b'H') | (letter == b'W')) & !accepting)
+}
+
+// The record of a process whose offer is withdrawn.
+fn given_up(x: Process) -> Process
+    ensures { λ r. ⌜ r ≡ givenUp x ⌝ }
+{
+    let signal = x.signal;
+    x.told(false, signal).at_place(Place::Idle)
+}
+
+pub fn withdraw_act(formed: bool, head: Head, p: u8, x: Process) -> Act
+    ensures { λ r. ⌜ r ≡ withdrawAct formed head p x ⌝ }
+{
+    let place = x.place;
+    match withdraw_verdict(formed, head.n, p, place) {
+        Verdict::Refused(refusal) => alone(Answer::Refused(refusal), head, x),
+        Verdict::Accepted => {
+            if commit_came_first(place, x.accepting) {
+                alone(Answer::TooLate, head, x)
+            } else {
+                alone(Answer::Withdrawn, head, given_up(x))
+            }
+        }
     }
 }

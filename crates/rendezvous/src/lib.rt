@@ -7,6 +7,7 @@ use process::TransactionId;
 ghost use Rattle.rendezvous.specs.Forms.{FormsAreWellFormed};
 ghost use Rattle.rendezvous.specs.Acts.{ActsAreCalls};
 ghost use Rattle.rendezvous.specs.Movers.{MoversChange};
+ghost use Rattle.rendezvous.specs.Withdrawals.{WithdrawsOpen};
 
 mod acts;
 mod collect;
@@ -18,11 +19,13 @@ mod refusals;
 mod runnable;
 mod step;
 mod well_formed;
+mod withdraw;
 
 pub use acts::alone;
 pub use acts::collect_act;
 pub use acts::offer_act;
 pub use acts::step_act;
+pub use acts::withdraw_act;
 pub use create::fresh_head;
 pub use well_formed::form_end;
 pub use well_formed::form_more;
@@ -53,7 +56,7 @@ pub struct Form {
     pub fits: bool,
 }
 
-// Why a call is turned away. The definition `refusalNumber` gives document 01's number of each.
+// Why a call is turned away. The definition `refusalNumber` gives the documents' number of each.
 pub enum Refusal {
     ProcessCount,
     NotWellFormed,
@@ -65,6 +68,7 @@ pub enum Refusal {
     NotIdle,
     LastTransaction,
     NotMet,
+    NothingOffered,
 }
 
 // Whether a call is turned away.
@@ -74,13 +78,16 @@ pub enum Verdict {
 }
 
 // What a call says: a table was made; the ticket of an offer; the new place of a step, or that nothing changed; the guard index,
-// partner and message of a collection; the set of processes that can move; or a refusal.
+// partner and message of a collection; that an offer is withdrawn, or that a commit came first; the set of processes that can move;
+// or a refusal.
 pub enum Answer {
     Made,
     Offered(TransactionId),
     Moved(Place),
     Unchanged,
     Collected(u8, u8, Message),
+    Withdrawn,
+    TooLate,
     Runnable(ProcessSet),
     Refused(Refusal),
 }
@@ -115,4 +122,9 @@ pub fn forms_are_well_formed()
 // Carries the claim that an act, carried out on the table that was read, is the call.
 pub fn acts_are_calls()
     ensures { λ _. ⌜ ActsAreCalls ⌝ }
+{}
+
+// Carries the claim that a withdrawal takes back exactly an open offer.
+pub fn withdraws_open()
+    ensures { λ _. ⌜ WithdrawsOpen ⌝ }
 {}

@@ -1,4 +1,4 @@
-// Document 01's numbers of the refusals.
+// The documents' numbers of the refusals.
 use crate::Refusal;
 ghost use mathlib.Core.Path.{_≡_};
 ghost use Rattle.rendezvous.specs.Numbers.{refusalNumber};
@@ -18,6 +18,7 @@ impl Refusal {
             Refusal::NotIdle => 11,
             Refusal::LastTransaction => 12,
             Refusal::NotMet => 13,
+            Refusal::NothingOffered => 14,
         }
     }
 }

@@ -12,7 +12,7 @@ use process::TransactionId;
 use process::partner_fits;
 ghost use mathlib.Core.Path.{_≡_};
 ghost use lib.ListN.{take};
-ghost use Rattle.rendezvous.specs.Refusals.{processTests, requireGuards, listVerdict, stateVerdict, offerTests};
+ghost use Rattle.rendezvous.specs.Refusals.{processTests, requireGuards, listVerdict, stateVerdict, offerTests, withdrawTests};
 
 // 7, then 2: `formed` says whether the table of n is well-formed.
 pub fn process_verdict(formed: bool, n: u8, p: u8) -> Verdict
@@ -103,6 +103,23 @@ pub fn offer_verdict(formed: bool, head: Head, p: u8, list: GuardList, place: Pl
         Verdict::Accepted => {
             let next = head.next;
             state_verdict(place, next)
+        }
+    }
+}
+
+// Every refusal of a withdrawal, in its order: 7, 2, and 14 at I or M.
+pub fn withdraw_verdict(formed: bool, n: u8, p: u8, place: Place) -> Verdict
+    ensures { λ r. ⌜ r ≡ withdrawTests formed n p place ⌝ }
+{
+    match process_verdict(formed, n, p) {
+        Verdict::Refused(refusal) => Verdict::Refused(refusal),
+        Verdict::Accepted => {
+            let letter = place.letter();
+            if (letter == b'I') | (letter == b'M') {
+                Verdict::Refused(Refusal::NothingOffered)
+            } else {
+                Verdict::Accepted
+            }
         }
     }
 }

@@ -9,7 +9,7 @@ use lib.Ieee.{binary32, toBits}
 use Rattle.text.specs.Writing.{capped, decimalText, lineLength}
 use Rattle.text.proofs.Capped.{capped-short}
 use Rattle.text.proofs.Printed.{decimal-text-length, whole-text-length, hex-text-length}
-use Rattle.rendezvous.specs.Numbers.{Said, made, ticket, place, same, outcome, movers, refusal}
+use Rattle.rendezvous.specs.Numbers.{Said, made, ticket, place, same, outcome, withdrawn, tooLate, movers, refusal}
 use Rattle.script.specs.Types.{Message}
 use Rattle.script.specs.Printing.{messageText, field, refusalText, answerText, ended}
 use Rattle.alternative.specs.declared.Found.{Found}
@@ -40,6 +40,8 @@ answer-length command (place letter none) h = simp length-append (omega arith)
 answer-length command (place letter (some i)) h = simp length-append (omega (arith, decimal-text-length i))
 answer-length command same h = simp length-append (omega arith)
 answer-length command (outcome i q m) h = simp length-append (omega (arith, decimal-text-length i, decimal-text-length q, message-length m))
+answer-length command withdrawn h = simp length-append (omega arith)
+answer-length command tooLate h = simp length-append (omega arith)
 answer-length command (movers set) h = simp length-append (omega (arith, hex-text-length set))
 answer-length command (refusal k) h = omega (arith, decimal-text-length k)
 

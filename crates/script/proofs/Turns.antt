@@ -16,22 +16,22 @@ use Rattle.process.specs.Rules.{Effect, Neither, Own, Both, partnerOf}
 use Rattle.process.proofs.PlaceCases.{if-met}
 use Rattle.rendezvous.specs.declared.Act.{Act}
 use Rattle.rendezvous.specs.declared.Verdict.{Verdict}
-use Rattle.rendezvous.specs.Table.{mostProcesses, process}
+use Rattle.rendezvous.specs.Table.{mostProcesses, process, put}
 use Rattle.rendezvous.specs.WellFormed.{wellFormed}
-use Rattle.rendezvous.specs.Refusals.{offerVerdict, processVerdict, tableVerdict}
+use Rattle.rendezvous.specs.Refusals.{offerVerdict, processVerdict, tableVerdict, withdrawVerdict}
 use Rattle.rendezvous.specs.Numbers.{said}
-use Rattle.rendezvous.specs.Calls.{ifAccepted, create, offered, offerList, effectOn, applied, stepped, step, collect}
+use Rattle.rendezvous.specs.Calls.{ifAccepted, create, offered, offerList, effectOn, applied, stepped, step, collect, commitCameFirst, givenUp, withdraw}
 use Rattle.rendezvous.specs.Movers.{runnable, runnableSet}
 use Rattle.rendezvous.specs.Run.{Call, replyTo}
 use Rattle.rendezvous.specs.Commands.{replyToCommand}
 use Rattle.rendezvous.specs.Acts.{done}
-use Rattle.script.specs.Types.{GuardList, ProcessTable, Answer, Reply, Offer, Step, Collect, Command, New, Do, Movers}
+use Rattle.script.specs.Types.{GuardList, ProcessTable, Answer, Reply, Offer, Step, Collect, Withdraw, Command, New, Do, Movers}
 use Rattle.script.specs.Printing.{commandText}
 use Rattle.script.specs.Lines.{Ended, lineCommand}
 use Rattle.script.specs.Session.{replyFrom, isRefused, Turn, answered, turnBy, turn}
 use Rattle.script.specs.Feeding.{tableIf}
 use Rattle.script.specs.Private.{isNew, isMovers, heard, newReply, lineAct, lineText}
-use Rattle.rendezvous.proofs.Done.{nothing-done, offer-done, step-done, collect-done}
+use Rattle.rendezvous.proofs.Done.{nothing-done, offer-done, step-done, collect-done, withdraw-done}
 use Rattle.script.proofs.Texts.{answer-length, number-length, refusal-length}
 
 -- "It returns its number and the desk received": refused or not, reading goes on with the table of a call's reply
@@ -49,11 +49,17 @@ applied-goes t p q Neither = refl
 applied-goes t p q (Own x) = refl
 applied-goes t p q (Both x y) = refl
 
+withdrawn-goes : (t : ProcessTable) (p : ℕ) (first : Bool) → GoesOn t (cond first (record { answer = Answer.TooLate; table = t }) (record { answer = Answer.Withdrawn; table = put t p (givenUp (process t p)) }))
+unfolding GoesOn
+withdrawn-goes t p true = refl
+withdrawn-goes t p false = refl
+
 call-goes : (t : ProcessTable) (c : Call) → GoesOn t (replyTo t c)
-unfolding GoesOn replyTo offerList offered step stepped collect
+unfolding GoesOn replyTo offerList offered step stepped collect withdraw
 call-goes t (Offer p gs) = if-goes (offerVerdict t p (lent gs)) t _ refl
 call-goes t (Step p) = if-goes (processVerdict t p) t _ (applied-goes t p (partnerOf (process t p)) (effectOn t p))
 call-goes t (Collect p) = if-goes (processVerdict t p) t _ (if-met (GoesOn t) _ _ (process t p .place) (λ i m e. refl) refl)
+call-goes t (Withdraw p) = if-goes (withdrawVerdict t p) t _ (withdrawn-goes t p (commitCameFirst (process t p .place) (process t p .accepting)))
 
 movers-goes : (t : ProcessTable) → GoesOn t (runnable t)
 unfolding GoesOn runnable
@@ -71,6 +77,7 @@ abbrev pub calledBy : ProcessTable → Kind → ℕ → GuardList → Reply
 calledBy t Kind.Offer n list = offerList t n list
 calledBy t Kind.Step n list = step t n
 calledBy t Kind.Collect n list = collect t n
+calledBy t Kind.Withdraw n list = withdraw t n
 calledBy t Kind.Malformed n list = record { answer = Answer.Unchanged; table = t }
 calledBy t Kind.New n list = record { answer = Answer.Unchanged; table = t }
 calledBy t Kind.Movers n list = record { answer = Answer.Unchanged; table = t }
@@ -82,6 +89,7 @@ unfolding lineAct
 line-done t Kind.Offer p list formed q act form named e = offer-done t p formed form act list (q % mostProcesses) e
 line-done t Kind.Step p list formed q act form named e = step-done t p formed form act q named e
 line-done t Kind.Collect p list formed q act form named e = collect-done t p formed form act (q % mostProcesses) e
+line-done t Kind.Withdraw p list formed q act form named e = withdraw-done t p formed form act (q % mostProcesses) e
 line-done t Kind.Malformed p list formed q act form named e = rw e (nothing-done t (p % mostProcesses) (q % mostProcesses) Answer.Unchanged)
 line-done t Kind.New p list formed q act form named e = rw e (nothing-done t (p % mostProcesses) (q % mostProcesses) Answer.Unchanged)
 line-done t Kind.Movers p list formed q act form named e = rw e (nothing-done t (p % mostProcesses) (q % mostProcesses) Answer.Unchanged)
@@ -105,6 +113,7 @@ undone t Kind.Malformed n list e = absurd (false≢true e)
 undone t Kind.Offer n list e = absurd (false≢true e)
 undone t Kind.Step n list e = absurd (false≢true e)
 undone t Kind.Collect n list e = absurd (false≢true e)
+undone t Kind.Withdraw n list e = absurd (false≢true e)
 
 movers-leave : (v : Verdict) (t : ProcessTable) (answer : Answer) → ifAccepted v t (record { answer = answer; table = t }) .table ≡ t
 movers-leave Verdict.Accepted t answer = refl
@@ -138,12 +147,14 @@ left-turn true t (some (New n)) = rw (new-goes true (isRefused (create n .answer
 left-turn true t (some (Do (Offer p gs))) = rw (call-goes t (Offer p gs))
 left-turn true t (some (Do (Step p))) = rw (call-goes t (Step p))
 left-turn true t (some (Do (Collect p))) = rw (call-goes t (Collect p))
+left-turn true t (some (Do (Withdraw p))) = rw (call-goes t (Withdraw p))
 left-turn true t (some Movers) = rw (movers-goes t)
 left-turn false t none = refl
 left-turn false t (some (New n)) = rw (new-goes false (isRefused (create n .answer)) t (create n .table))
 left-turn false t (some (Do (Offer p gs))) = refl
 left-turn false t (some (Do (Step p))) = refl
 left-turn false t (some (Do (Collect p))) = refl
+left-turn false t (some (Do (Withdraw p))) = refl
 left-turn false t (some Movers) = refl
 
 pub line-turn : (made : Bool) (t : ProcessTable) (line : List ℕ) (c p : Parsed) (text : List ℕ) (made′ : Bool) (reply : Reply) → c ≡ asParsed (lineCommand (Ended line)) → p ≡ heard made c
@@ -166,6 +177,7 @@ command-length (New n) = number-length (code "n") n
 command-length (Do (Offer p gs)) = number-length (code "o") p
 command-length (Do (Step p)) = number-length (code "s") p
 command-length (Do (Collect p)) = number-length (code "c") p
+command-length (Do (Withdraw p)) = number-length (code "w") p
 command-length Movers = omega arith
 
 by-length : (table : Option ProcessTable) (c : Command) (reply : Option Reply) → length (turnBy table c reply .prints) ≤ lineLength

@@ -13,7 +13,7 @@ use Rattle.rendezvous.specs.declared.Act.{Act}
 use Rattle.rendezvous.specs.declared.Head.{Head}
 use Rattle.rendezvous.specs.Types.{Process}
 use Rattle.rendezvous.specs.Calls.{create}
-use Rattle.rendezvous.specs.Acts.{alone, offerAct, stepAct, collectAct}
+use Rattle.rendezvous.specs.Acts.{alone, offerAct, stepAct, collectAct, withdrawAct}
 use Rattle.rendezvous.specs.Numbers.{said}
 use Rattle.script.specs.Types.{GuardList, ProcessTable, Answer, Reply}
 use Rattle.script.specs.Printing.{field, refusalText, answerText, ended}
@@ -26,6 +26,7 @@ isNew Kind.Malformed = false
 isNew Kind.Offer = false
 isNew Kind.Step = false
 isNew Kind.Collect = false
+isNew Kind.Withdraw = false
 isNew Kind.Movers = false
 
 abbrev pub isMovers : Kind → Bool
@@ -35,6 +36,7 @@ isMovers Kind.Malformed = false
 isMovers Kind.Offer = false
 isMovers Kind.Step = false
 isMovers Kind.Collect = false
+isMovers Kind.Withdraw = false
 
 -- a command as it counts where a table was made or not: without one, all but `n` are malformed
 abbrev pub heard : Bool → Parsed → Parsed
@@ -45,6 +47,7 @@ unfoldable pub lineAct : Kind → ℕ → GuardList → Bool → Head → Proces
 lineAct Kind.Offer p list formed h x q y = offerAct formed h p x list
 lineAct Kind.Step p list formed h x q y = stepAct formed h p x q y
 lineAct Kind.Collect p list formed h x q y = collectAct formed h p x
+lineAct Kind.Withdraw p list formed h x q y = withdrawAct formed h p x
 lineAct Kind.Malformed p list formed h x q y = alone Answer.Unchanged h x
 lineAct Kind.New p list formed h x q y = alone Answer.Unchanged h x
 lineAct Kind.Movers p list formed h x q y = alone Answer.Unchanged h x
@@ -67,4 +70,5 @@ lineText Kind.New n answer = ended (answerText (code "n" ∷ field (decimalText 
 lineText Kind.Offer n answer = ended (answerText (code "o" ∷ field (decimalText n)) (said answer))
 lineText Kind.Step n answer = ended (answerText (code "s" ∷ field (decimalText n)) (said answer))
 lineText Kind.Collect n answer = ended (answerText (code "c" ∷ field (decimalText n)) (said answer))
+lineText Kind.Withdraw n answer = ended (answerText (code "w" ∷ field (decimalText n)) (said answer))
 lineText Kind.Movers n answer = ended (answerText (code "m" ∷ []) (said answer))

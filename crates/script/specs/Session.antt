@@ -25,6 +25,8 @@ isRefused (Answer.Offered t) = false
 isRefused (Answer.Moved place) = false
 isRefused Answer.Unchanged = false
 isRefused (Answer.Collected i q m) = false
+isRefused Answer.Withdrawn = false
+isRefused Answer.TooLate = false
 isRefused (Answer.Runnable set) = false
 
 -- What a line prints, and the table with which reading goes on: none before an accepted `n`.

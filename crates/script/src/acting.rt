@@ -11,6 +11,7 @@ use rendezvous::alone;
 use rendezvous::collect_act;
 use rendezvous::offer_act;
 use rendezvous::step_act;
+use rendezvous::withdraw_act;
 ghost use mathlib.Core.Path.{_≡_};
 ghost use Rattle.script.specs.Session.{isRefused};
 ghost use Rattle.script.specs.Private.{lineAct, newReply};
@@ -26,6 +27,7 @@ pub fn line_act(command: Parsed, formed: bool, head: Head, x: Process, q: u8, y:
         Kind::Offer => offer_act(formed, head, p, x, list),
         Kind::Step => step_act(formed, head, p, x, q, y),
         Kind::Collect => collect_act(formed, head, p, x),
+        Kind::Withdraw => withdraw_act(formed, head, p, x),
         Kind::Malformed => alone(Answer::Unchanged, head, x),
         Kind::New => alone(Answer::Unchanged, head, x),
         Kind::Movers => alone(Answer::Unchanged, head, x),
@@ -43,6 +45,8 @@ pub fn is_refused(answer: Answer) -> bool
         Answer::Moved(_) => false,
         Answer::Unchanged => false,
         Answer::Collected(_, _, _) => false,
+        Answer::Withdrawn => false,
+        Answer::TooLate => false,
         Answer::Runnable(_) => false,
     }
 }

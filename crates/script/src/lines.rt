@@ -35,6 +35,7 @@ pub fn is_new(command: Parsed) -> bool
         Kind::Offer => false,
         Kind::Step => false,
         Kind::Collect => false,
+        Kind::Withdraw => false,
         Kind::Movers => false,
     }
 }
@@ -51,6 +52,7 @@ pub fn is_movers(command: Parsed) -> bool
         Kind::Offer => false,
         Kind::Step => false,
         Kind::Collect => false,
+        Kind::Withdraw => false,
     }
 }
 

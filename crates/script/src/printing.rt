@@ -60,6 +60,13 @@ fn answer_text(command: Text, answer: Answer) -> Text
         Answer::Moved(place) => place_text(command, place),
         Answer::Unchanged => command.byte(b' ').byte(b'='),
         Answer::Collected(index, partner, m) => outcome_text(command, index, partner, m),
+        Answer::Withdrawn => command.byte(b' ').byte(b'o').byte(b'k'),
+        Answer::TooLate => command
+            .byte(b' ')
+            .byte(b'l')
+            .byte(b'a')
+            .byte(b't')
+            .byte(b'e'),
         Answer::Runnable(set) => command.byte(b' ').hex(set),
         Answer::Refused(refusal) => refusal_text(refusal.number()),
     }
@@ -98,6 +105,7 @@ pub fn printed_line(command: Parsed, answer: Answer) -> Text
         Kind::Offer => answer_line(command_text(b'o', number), answer),
         Kind::Step => answer_line(command_text(b's', number), answer),
         Kind::Collect => answer_line(command_text(b'c', number), answer),
+        Kind::Withdraw => answer_line(command_text(b'w', number), answer),
         Kind::Movers => answer_line(Text::empty().byte(b'm'), answer),
     }
 }

@@ -1,6 +1,6 @@
 use mathlib.Core.Path.{refl, _∙_}
 use borrow.Author.Needs.{needs}
-use Rattle.command.specs.Types.{Step, Collect, New, Do, Kind}
+use Rattle.command.specs.Types.{Step, Collect, Withdraw, New, Do, Kind}
 use Rattle.command.specs.Commands.{byLetter}
 use Rattle.command.proofs.Letters.{numbered-as, with-none}
 use Rattle.command.proofs.commands.parse_with.Statement.{statement}
@@ -23,7 +23,13 @@ unfolding byLetter
 returns-4 c = rw (c .before .if4 .taken) (c .parse-numbered3 .ensures ∙ numbered-as Kind.Collect (λ p. Do (Collect p)) (λ n. refl) _)
 
 returns-5 : tie.Need-returns-5
-returns-5 c = rw (with-none (c .before .before .before .before .before .before .args .letter) (c .before .before .before .before .before .before .args .s .now) (c .before .before .before .before .if1 .left) (c .before .before .before .if2 .left) (c .before .before .if3 .left) (c .before .if4 .left)) (c .plain-command .ensures)
+unfolding byLetter
+returns-5 c = rw (c .before .if5 .taken) (c .parse-numbered4 .ensures ∙ numbered-as Kind.Withdraw (λ p. Do (Withdraw p)) (λ n. refl) _)
+
+returns-6 : tie.Need-returns-6
+returns-6 c =
+    let a = c .before .before .before .before .before .before .before .args in
+    rw (with-none (a .letter) (a .s .now) (c .before .before .before .before .before .if1 .left) (c .before .before .before .before .if2 .left) (c .before .before .before .if3 .left) (c .before .before .if4 .left) (c .before .if5 .left)) (c .plain-command .ensures)
 
 pub parse-with-spec : {M : Type 1} → statement M
 parse-with-spec =
@@ -38,4 +44,6 @@ parse-with-spec =
     (λ c κs. search needs)
     returns-4
     (λ c κs. search needs)
-    returns-5)
+    returns-5
+    (λ c κs. search needs)
+    returns-6)

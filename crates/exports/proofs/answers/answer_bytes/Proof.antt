@@ -23,6 +23,12 @@ returns-6 c = rw (c .before .before .answer4 .given .1) (c .laid-out6 .ensures)
 returns-7 : tie.Need-returns-7
 returns-7 c = rw (c .before .before .before .answer5 .given .1, c .laid-out7 .ensures, c .before .number .ensures)
 
+returns-8 : tie.Need-returns-8
+returns-8 c = rw (c .before .enum-told3 .given .1) (c .laid-out8 .ensures)
+
+returns-9 : tie.Need-returns-9
+returns-9 c = rw (c .before .enum-told4 .given .1) (c .laid-out9 .ensures)
+
 pub answer-bytes-spec : {M : Type 1} → statement M
 answer-bytes-spec =
     tie.close
@@ -44,10 +50,16 @@ answer-bytes-spec =
     (λ c. search needs)
     (λ c κs. search needs)
     (λ c κs. search needs)
+    (λ c. search needs)
+    (λ c κs. search needs)
+    (λ c. search needs)
+    (λ c κs. search needs)
     returns
     returns-2
     returns-3
     returns-4
     returns-5
     returns-6
-    returns-7)
+    returns-7
+    returns-8
+    returns-9)

@@ -17,15 +17,19 @@ returns-3 c = rw (c .before .enum-told3 .given .1) (c .collect-act .ensures)
 
 returns-4 : tie.Need-returns-4
 unfolding lineAct
-returns-4 c = rw (c .before .enum-told4 .given .1) (c .alone .ensures)
+returns-4 c = rw (c .before .enum-told4 .given .1) (c .withdraw-act .ensures)
 
 returns-5 : tie.Need-returns-5
 unfolding lineAct
-returns-5 c = rw (c .before .enum-told5 .given .1) (c .alone2 .ensures)
+returns-5 c = rw (c .before .enum-told5 .given .1) (c .alone .ensures)
 
 returns-6 : tie.Need-returns-6
 unfolding lineAct
-returns-6 c = rw (c .before .enum-told6 .given .1) (c .alone3 .ensures)
+returns-6 c = rw (c .before .enum-told6 .given .1) (c .alone2 .ensures)
+
+returns-7 : tie.Need-returns-7
+unfolding lineAct
+returns-7 c = rw (c .before .enum-told7 .given .1) (c .alone3 .ensures)
 
 pub line-act-spec : {M : Type 1} → statement M
 line-act-spec =
@@ -43,9 +47,12 @@ line-act-spec =
     (λ c κs. search needs)
     (λ c. search needs)
     (λ c κs. search needs)
+    (λ c. search needs)
+    (λ c κs. search needs)
     returns
     returns-2
     returns-3
     returns-4
     returns-5
-    returns-6)
+    returns-6
+    returns-7)

@@ -31,11 +31,22 @@ returns-5 c = rw (c .before .before .answer3 .given .1) (c .outcome-text .ensure
 
 returns-6 : tie.Need-returns-6
 unfolding answerText
-returns-6 c = rw (c .before .before .before .answer4 .given .1) (simp (c .hex .ensures, c .before .byte5 .ensures, capped-capped, append-assoc))
+returns-6 c = rw (c .before .before .before .enum-told3 .given .1) (simp (c .byte7 .ensures, c .before .byte6 .ensures, c .before .before .byte5 .ensures, capped-capped, append-assoc))
 
 returns-7 : tie.Need-returns-7
 unfolding answerText
-returns-7 c = rw (c .before .before .before .answer5 .given .1) (simp (c .refusal-text .ensures, c .before .number .ensures))
+returns-7 c =
+    let l = c .before .before .before .before in
+    rw (l .before .enum-told4 .given .1)
+    (simp (c .byte12 .ensures, c .before .byte11 .ensures, c .before .before .byte10 .ensures, c .before .before .before .byte9 .ensures, l .byte8 .ensures, capped-capped, append-assoc))
+
+returns-8 : tie.Need-returns-8
+unfolding answerText
+returns-8 c = rw (c .before .before .before .answer4 .given .1) (simp (c .hex .ensures, c .before .byte13 .ensures, capped-capped, append-assoc))
+
+returns-9 : tie.Need-returns-9
+unfolding answerText
+returns-9 c = rw (c .before .before .before .answer5 .given .1) (simp (c .refusal-text .ensures, c .before .number .ensures))
 
 pub answer-text-spec : {M : Type 1} → statement M
 answer-text-spec =
@@ -65,4 +76,6 @@ answer-text-spec =
     returns-4
     returns-5
     returns-6
-    returns-7)
+    returns-7
+    returns-8
+    returns-9)

@@ -28,7 +28,11 @@ returns-5 c = rw (c .before .before .enum-told5 .given .1) (line-text _ _ (numbe
 
 returns-6 : tie.Need-returns-6
 unfolding lineText
-returns-6 c = rw (c .before .before .before .enum-told6 .given .1) (line-text _ _ (omega arith) (letter-capped _ (c .before .before .empty .ensures) (c .before .byte .ensures)) (c .answer-line5 .ensures))
+returns-6 c = rw (c .before .before .enum-told6 .given .1) (line-text _ _ (number-length (code "w") _) (c .before .command-text5 .ensures) (c .answer-line5 .ensures))
+
+returns-7 : tie.Need-returns-7
+unfolding lineText
+returns-7 c = rw (c .before .before .before .enum-told7 .given .1) (line-text _ _ (omega arith) (letter-capped _ (c .before .before .empty .ensures) (c .before .byte .ensures)) (c .answer-line6 .ensures))
 
 pub printed-line-spec : {M : Type 1} → statement M
 printed-line-spec =
@@ -52,9 +56,13 @@ printed-line-spec =
     (λ c κs. search needs)
     (λ c κs. search needs)
     (λ c κs. search needs)
+    (λ c. search needs)
+    (λ c κs. search needs)
+    (λ c κs. search needs)
     returns
     returns-2
     returns-3
     returns-4
     returns-5
-    returns-6)
+    returns-6
+    returns-7)
