@@ -11,8 +11,8 @@ returns : tie.Need-returns
 unfolding bytes decimalFrom decimal byteNumber whole hexDigit hexFrom hexWord fields wholeIn readingIn limitIn messageBy messageIn sendIn actionBy actionIn leading guardFrom guardIn guardsIn numberIn offerIn numbered byLetter commandIn commandOf
 returns c =
     record {
-      commands = (refl, refl, refl, refl, refl, refl, refl, refl, refl, refl);
-      malformed = (refl, refl, refl, refl, refl, refl, refl, refl, refl, refl, refl, refl, refl, refl, refl, refl, refl, refl);
+      commands = (refl, refl, refl, refl, refl, refl, refl, refl, refl, refl, refl);
+      malformed = (refl, refl, refl, refl, refl, refl, refl, refl, refl, refl, refl, refl, refl, refl, refl, refl, refl, refl, refl, refl, refl);
     }
 
 pub line-cases-spec : {M : Type 1} → statement M
