@@ -9,6 +9,7 @@ pub mod Fitting
 pub mod Followed
 pub mod Formed
 pub mod Further
+pub mod Withdrawals
 pub mod GoodTable
 pub mod Invariant
 pub mod Keeps

@@ -22,11 +22,11 @@ abbrev limit : ℕ → ℕ → Message
 limit low high = Message.Limit (ofBits binary32 low) (ofBits binary32 high)
 
 -- a record by hand: ticket, place, signal, whether the wake count is 0, own list and posted list
-abbrev by-hand : ℕ → Place → Signal → Bool → List Guard → List Guard → Process
+abbrev pub by-hand : ℕ → Place → Signal → Bool → List Guard → List Guard → Process
 by-hand id place signal accepting own posted = record { place = place; signal = signal; transaction = record { 0 = id }; accepting = accepting; count = length own; altcount = length posted; guards = slots own; altlist = slots posted }
 
 -- a table by hand: the number of processes, the next ticket, and the first of its records; the others are fresh
-abbrev table : ℕ → ℕ → List Process → ProcessTable
+abbrev pub table : ℕ → ℕ → List Process → ProcessTable
 table n next records = record { head = withNext (freshHead n) next; processes = take mostProcesses (records ++ replicate mostProcesses freshProcess) }
 
 -- Two processes: 0 at a place and with a signal, two guards in its own list and none posted; 1 at I, with one guard posted.

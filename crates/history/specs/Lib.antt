@@ -7,3 +7,4 @@ pub mod StaysWellFormed
 pub mod NothingLost
 pub mod Cases
 pub mod Further
+pub mod Withdrawals

@@ -4,6 +4,7 @@ ghost use Rattle.history.specs.StaysWellFormed.{StaysWellFormed};
 ghost use Rattle.history.specs.NothingLost.{NothingLost};
 ghost use Rattle.history.specs.Cases.{Starred};
 ghost use Rattle.history.specs.Further.{Further, Demand3AtEnds};
+ghost use Rattle.history.specs.Withdrawals.{Withdrawals};
 
 // Carries demand 3, so that the verdict has a line for it: the claim about every list of calls from any fresh table.
 pub fn demand3()
@@ -33,4 +34,9 @@ pub fn starred_cases()
 // Carries the cases beside the starred ones.
 pub fn further_cases()
     ensures { λ _. ⌜ Further ⌝ }
+{}
+
+// Carries the cases of withdrawals: in each of them the definitions say what document 02 says.
+pub fn withdrawal_cases()
+    ensures { λ _. ⌜ Withdrawals ⌝ }
 {}
