@@ -1,5 +1,6 @@
-/* ./run --trace: tells, for each rendezvous of the script on standard input, which way its message went, station by station, and at the
-   end which offers have not met, which outcomes are not collected, and which lines were refused.
+/* ./run --trace: tells, for each rendezvous of the script on standard input, which way its message went, station by station; for each
+   offer that is withdrawn, as soon as it is, from which place; and at the end which offers have not met, which outcomes are not
+   collected, and which lines were refused.
    The script goes to the proved library a line at a time. What a station shows is read out of the table's own bytes, as they stood
    just before and just after that line, and at a collection out of what the line printed; rendezvous.h says what stands where.
    Each station is held against the guards as the script wrote them; between stations, no line may change what a record holds of them. */
@@ -11,8 +12,8 @@
 
 /* A line that is taken has at most so many bytes with its end, so it is one piece. */
 enum { PIECE = RENDEZVOUS_BEGUN_BYTES };
-/* Both offer; the waiter posts, opens, waits; one commits and signals, one absorbs; both collect. */
-enum { STATIONS = 10 };
+/* Both offer; the waiter posts, opens, waits; one commits and signals, one absorbs; both may be too late to withdraw; both collect. */
+enum { STATIONS = 12 };
 /* So many rendezvous wait for an older one to be told. At most RENDEZVOUS_PROCESSES of them have a collection due. */
 enum { STORIES = 256 };
 
@@ -49,6 +50,7 @@ typedef struct {
     unsigned long story;          /* the number of its rendezvous, until it collects; 0 is none */
     unsigned guard;               /* its guard in that */
     Text due;                     /* and what it will collect */
+    bool late;                    /* it was too late to withdraw */
 } Process;
 
 static uint8_t before[RENDEZVOUS_SESSION_BYTES], after[RENDEZVOUS_SESSION_BYTES];
@@ -103,6 +105,13 @@ static Text outcome_in(const uint8_t *process) { return message_in(process + REN
 static unsigned long ticket_in(const uint8_t *process) { return rendezvous_word(process + RENDEZVOUS_RECORD_TICKET); }
 
 static int wake_count_in(const uint8_t *process) { return !process[RENDEZVOUS_RECORD_ACCEPTING]; }
+
+static char place(const uint8_t *session, unsigned p) {
+    static const char letters[] = "IEATCPOHSWM";
+    uint8_t at = record(session, p)[RENDEZVOUS_RECORD_PLACE];
+    if (at >= strlen(letters)) fail("a process is at no place");
+    return letters[at];
+}
 
 /* Guard i as the script's line of an offer, `o P G..`, writes it. */
 static Text guard_written(const char *offer, unsigned i) {
@@ -294,28 +303,10 @@ static void tell_all(void) {
     while (held > 0) tell(0);
 }
 
-/* From which place to which each station moves its process. */
-static const struct {
-    char from, to;
-    void (*station)(unsigned p);
-} moves[] = {{'I', 'E', offers},  {'P', 'O', posts},   {'O', 'H', opens},   {'H', 'W', waits},
-             {'T', 'C', commits}, {'C', 'M', signals}, {'W', 'M', absorbs}, {'M', 'I', collects}};
-
-static char place(const uint8_t *session, unsigned p) {
-    static const char letters[] = "IEATCPOHSWM";
-    uint8_t at = record(session, p)[RENDEZVOUS_RECORD_PLACE];
-    if (at >= strlen(letters)) fail("a process is at no place");
-    return letters[at];
-}
-
-/* An offer that has not met, or an outcome that is not collected: whose, and where that process stands. */
-static void tell_left(const uint8_t *session, unsigned p) {
+/* Where process p stands. */
+static void tell_place(const uint8_t *session, unsigned p) {
     const Process *process = &processes[p];
     char at = place(session, p);
-    if (process->story > 0)
-        printf("  not collected: %s for process %u of rendezvous %lu", readable(process->due).text, p, process->story);
-    else
-        printf("  not met: the offer of process %u at line %lu, ticket %lu", p, process->seen[OFFERS].line, ticket_in(record(session, p)));
     printf(" (at %c", at);
     if (strchr("ATC", at)) printf("%u", record(session, p)[RENDEZVOUS_RECORD_INDEX]);
     printf(" since line %lu, ", process->moved);
@@ -323,6 +314,45 @@ static void tell_left(const uint8_t *session, unsigned p) {
         printf("last step at line %lu)\n", process->stepped);
     else
         printf("no step yet)\n");
+}
+
+/* The offer of process p, and where that process stands. */
+static void tell_offer(const uint8_t *session, unsigned p) {
+    printf("the offer of process %u at line %lu, ticket %lu", p, processes[p].seen[OFFERS].line, ticket_in(record(session, p)));
+    tell_place(session, p);
+}
+
+/* Process p takes its offer back, which no rule lets it do after a commit. */
+static void withdraws(unsigned p) {
+    if (processes[p].story > 0) fail("an offer is withdrawn after its commit");
+    printf("withdrawn at line %lu: ", line);
+    tell_offer(before, p);
+}
+
+/* Process p would withdraw, and a commit came first. It may ask again and again: the first time is told. */
+static void comes_late(unsigned p) {
+    if (!processes[p].late) add(story_of(p), line, "process %u is too late to withdraw its offer", p);
+    processes[p].late = true;
+}
+
+/* From which places to which each station moves its process. */
+static const struct {
+    const char *from;
+    char to;
+    void (*station)(unsigned p);
+} moves[] = {{"I", 'E', offers},  {"P", 'O', posts},   {"O", 'H', opens},    {"H", 'W', waits},           {"T", 'C', commits},
+             {"C", 'M', signals}, {"W", 'M', absorbs}, {"M", 'I', collects}, {"EATCPOHSW", 'I', withdraws}};
+
+/* An offer that has not met, or an outcome that is not collected. */
+static void tell_left(const uint8_t *session, unsigned p) {
+    const Process *process = &processes[p];
+    if (process->story > 0) {
+        printf("  not collected: %s for process %u of rendezvous %lu", readable(process->due).text, p, process->story);
+        tell_place(session, p);
+    } else {
+        printf("  not met: ");
+        tell_offer(session, p);
+    }
 }
 
 /* What is left of a table where it ends, under a heading. Gives whether anything is. */
@@ -356,7 +386,7 @@ static void look_at(unsigned p) {
     char from = place(before, p), to = place(after, p);
     see_stray(p, from, to);
     for (size_t k = 0; from != to && k < sizeof moves / sizeof moves[0]; k++)
-        if (from == moves[k].from && to == moves[k].to) moves[k].station(p);
+        if (strchr(moves[k].from, from) && to == moves[k].to) moves[k].station(p);
     if (from != to || changed(p, RENDEZVOUS_RECORD_INDEX, RENDEZVOUS_RECORD_KEPT)) processes[p].moved = line;
 }
 
@@ -377,15 +407,16 @@ static void refuse(void) {
 
 /* What the line did, by what it printed and the tables before and after it. */
 static void look(void) {
-    unsigned stepped;
+    unsigned p;
     line++;
     if (printed[0] == 'n') {
         begin_table();
         return;
     }
     if (printed[0] == 'x') refuse();
-    for (unsigned p = 0; p < RENDEZVOUS_PROCESSES; p++) look_at(p);
-    if (sscanf(printed, "s %u", &stepped) == 1 && stepped < RENDEZVOUS_PROCESSES) processes[stepped].stepped = line;
+    for (p = 0; p < RENDEZVOUS_PROCESSES; p++) look_at(p);
+    if (sscanf(printed, "s %u", &p) == 1 && p < RENDEZVOUS_PROCESSES) processes[p].stepped = line;
+    if (sscanf(printed, "w %u", &p) == 1 && p < RENDEZVOUS_PROCESSES && strstr(printed, "late")) comes_late(p);
 }
 
 /* Reads up to the end of a line, or as much of it as a piece has. */

@@ -44,6 +44,8 @@ static void print_answer(const char *call) {
     if (kind == RENDEZVOUS_UNCHANGED) printf(" =");
     if (kind == RENDEZVOUS_COLLECTED) printf(" %u %u ", first, second);
     if (kind == RENDEZVOUS_COLLECTED) write_message(stdout, answer + RENDEZVOUS_ANSWER_MESSAGE);
+    if (kind == RENDEZVOUS_WITHDRAWN) printf(" ok");
+    if (kind == RENDEZVOUS_TOO_LATE) printf(" late");
     if (kind == RENDEZVOUS_RUNNABLE) printf(" %08lx", (unsigned long)rendezvous_word(answer + RENDEZVOUS_ANSWER_WORD));
     printf("\n");
 }
@@ -94,6 +96,12 @@ static void collect(uint8_t p) {
     next(rendezvous_collect(table, sizeof table, p, after, sizeof after, answer, sizeof answer), call);
 }
 
+static void withdraw(uint8_t p) {
+    const char *call = begin('w', p);
+    end_line();
+    next(rendezvous_withdraw(table, sizeof table, p, after, sizeof after, answer, sizeof answer), call);
+}
+
 static bool runnable(void) {
     fprintf(script, "m");
     end_line();
@@ -137,6 +145,9 @@ int main(int count, char **words) {
     settle();
     collect(0);
     collect(1);
+    offer(0, reading, sizeof reading);
+    settle();
+    withdraw(0);
     step(2);
     return fclose(script) != 0 || fflush(stdout) != 0 || ferror(stdout);
 }
