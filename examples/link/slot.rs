@@ -8,8 +8,8 @@
 //! round that changes nothing it gives the lock up for a moment. When the slot closes, it withdraws:
 //! - Withdrawn: nobody has met this offer, and nobody will.
 //! - Too late, or refused by 14, since the process is at M by then: a commit came first, and the
-//!   message is on its way. The task must go on until it collects. That takes two rounds at most,
-//!   and waits for no other task, since rounds move the partner too.
+//!   message is on its way. The task must go on until it collects. It waits for no other task in
+//!   that, since rounds move the partner too.
 //!
 //! So each offer ends in one of two ways: met or withdrawn.
 

@@ -1,4 +1,4 @@
--- The examples of document 01 hold, by one computation over the definitions.
+-- The examples of documents 01 and 02 hold, by one computation over the definitions.
 use mathlib.Core.Path.{refl}
 use mathlib.Core.List.{flatten}
 use lib.Ieee.{ofBits, toBits}
@@ -6,8 +6,8 @@ use Rattle.alternative.specs.Guards.{guardsMatch, anyGuard, firstFrom, keptMatc
 use Rattle.process.specs.Rules.{scanFrom, handOver, rule}
 use Rattle.process.specs.Fits.{allGuards, partnerFits, listFits, processFits}
 use Rattle.rendezvous.specs.WellFormed.{allBelow, countFits, fitsAt, wellFormed}
-use Rattle.rendezvous.specs.Refusals.{requireGuards, createVerdict, tableVerdict, processVerdict, listVerdict, stateVerdict, offerVerdict}
-use Rattle.rendezvous.specs.Calls.{create, entering, offered, offerList, effectOn, stepped, step, collect}
+use Rattle.rendezvous.specs.Refusals.{requireGuards, createVerdict, tableVerdict, processVerdict, listVerdict, stateVerdict, offerVerdict, withdrawVerdict}
+use Rattle.rendezvous.specs.Calls.{create, entering, offered, offerList, effectOn, stepped, step, collect, withdraw}
 use Rattle.rendezvous.specs.Movers.{setBelow, runnableSet, runnable}
 use Rattle.rendezvous.specs.Run.{replyTo}
 use Rattle.rendezvous.specs.Commands.{replyToCommand}
@@ -19,8 +19,8 @@ use Rattle.command.specs.Commands.{guardsIn, numberIn, offerIn, numbered, byLet
 use Rattle.script.specs.Printing.{messageText, answerText}
 use Rattle.script.specs.Lines.{linesFrom, lineCommand}
 use Rattle.script.specs.Session.{replyFrom, answered, turn, printedBy, output}
-use Rattle.script.specs.Examples.{offerLine, MarkedSession, CarriedMessages, MalformedLines}
+use Rattle.script.specs.Examples.{offerLine, MarkedSession, CarriedMessages, MalformedLines, ClosedSlots}
 
-pub examples-hold : MarkedSession × CarriedMessages × MalformedLines
-unfolding guardsMatch anyGuard firstFrom keptMatch nextEnabled slots lent scanFrom handOver rule allGuards allBelow countFits partnerFits listFits processFits fitsAt wellFormed requireGuards createVerdict tableVerdict processVerdict listVerdict stateVerdict offerVerdict create entering offered offerList effectOn stepped step collect setBelow runnableSet runnable replyTo replyToCommand decimalFrom decimal byteNumber whole hexDigit hexFrom hexWord decimalUpTo wholeText hexUpTo fields wholeIn readingIn limitIn messageBy messageIn sendIn actionBy actionIn leading guardFrom guardIn guardsIn numberIn offerIn numbered byLetter commandIn commandOf messageText answerText linesFrom lineCommand replyFrom answered turn printedBy output bytes offerLine flatten ofBits toBits lib.Ieee.isNan
-examples-hold = (refl, refl, refl)
+pub examples-hold : MarkedSession × CarriedMessages × MalformedLines × ClosedSlots
+unfolding guardsMatch anyGuard firstFrom keptMatch nextEnabled slots lent scanFrom handOver rule allGuards allBelow countFits partnerFits listFits processFits fitsAt wellFormed requireGuards createVerdict tableVerdict processVerdict listVerdict stateVerdict offerVerdict withdrawVerdict create entering offered offerList effectOn stepped step collect withdraw setBelow runnableSet runnable replyTo replyToCommand decimalFrom decimal byteNumber whole hexDigit hexFrom hexWord decimalUpTo wholeText hexUpTo fields wholeIn readingIn limitIn messageBy messageIn sendIn actionBy actionIn leading guardFrom guardIn guardsIn numberIn offerIn numbered byLetter commandIn commandOf messageText answerText linesFrom lineCommand replyFrom answered turn printedBy output bytes offerLine flatten ofBits toBits lib.Ieee.isNan
+examples-hold = (refl, refl, refl, refl)

@@ -1,4 +1,4 @@
--- To be believed. Document 01, "The script program": the marked session, byte for byte; limits and whole numbers; and what gives 8.
+-- To be believed. Document 01, "The script program": the marked session, byte for byte; limits and whole numbers; what gives 8; and, of CR 1 of document 02, slots that close.
 use Prim.Native.Nat.{ℕ}
 use mathlib.Core.Path.{_≡_}
 use mathlib.Core.List.{List, _++_, flatten}
@@ -34,3 +34,9 @@ abbrev pub MalformedLines : Type 0
 MalformedLines =
     output (bytes "s 0\nn 2\nm \n\no 0 1?\nn 33\nm\n" ++ offerLine 63 ++ bytes " 1!0 1!0\n" ++ offerLine 66 ++ bytes "\nn 2")
     ≡ bytes "x 8\nn 2\nx 8\nx 8\no 0 t0\nx 1\nm 00000001\nx 3\nx 8\nx 8\n"
+
+-- CR 1: "`w P` prints `w`, P and `ok` or `late`.", where the slot closes before the commit, and after it; 14 at I, 2 for no process
+abbrev pub ClosedSlots : Type 0
+ClosedSlots =
+    output (bytes "n 2\nw 0\nw 2\no 0 1?\nw 0\no 0 1?\no 1 0!r40970a3d\ns 0\ns 0\ns 0\ns 0\ns 0\ns 1\ns 1\ns 1\nw 0\nw 1\ns 1\ns 0\nw 0\nc 0\n")
+    ≡ bytes "n 2\nx 14\nx 2\no 0 t0\nw 0 ok\no 0 t1\no 1 t2\ns 0 A0\ns 0 P\ns 0 O\ns 0 H\ns 0 W\ns 1 A0\ns 1 T0\ns 1 C0\nw 0 late\nw 1 late\ns 1 M\ns 0 M\nx 14\nc 0 0 1 r40970a3d\n"

@@ -1,6 +1,6 @@
-// The script program of document 01, from all input bytes to all output bytes: its lines, commands, calls and printed lines.
+// The script program of documents 01 and 02, from all input bytes to all output bytes: its lines, commands, calls and printed lines.
 use rendezvous::ProcessTable;
-ghost use Rattle.script.specs.Examples.{MarkedSession, CarriedMessages, MalformedLines};
+ghost use Rattle.script.specs.Examples.{MarkedSession, CarriedMessages, MalformedLines, ClosedSlots};
 ghost use Rattle.script.specs.Feeding.{Pieces};
 
 mod acting;
@@ -49,4 +49,9 @@ pub fn carried_messages()
 // Carries an example of each line that gives 8.
 pub fn malformed_lines()
     ensures { λ _. ⌜ MalformedLines ⌝ }
+{}
+
+// Carries withdrawals before and after a commit, byte for byte.
+pub fn closed_slots()
+    ensures { λ _. ⌜ ClosedSlots ⌝ }
 {}
