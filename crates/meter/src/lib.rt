@@ -41,6 +41,11 @@ pub extern "C" fn meter_calls(plan: u8, n: u8, load: u8, calls: u64) -> u64 {
                 answer = reply.answer;
                 t = reply.table;
             }
+            Planned::Withdraw(p) => {
+                let reply = t.withdraw(p);
+                answer = reply.answer;
+                t = reply.table;
+            }
             Planned::Runnable => {
                 let reply = t.runnable();
                 answer = reply.answer;

@@ -3,6 +3,7 @@ pub enum Planned {
     Offer(u8),
     Step(u8),
     Collect(u8),
+    Withdraw(u8),
     Runnable,
 }
 
@@ -19,8 +20,8 @@ fn meeting_call(turn: u8) -> Planned {
     }
 }
 
-// The call of a plan at this turn of fourteen. Plans 1 to 5: a step that changes the table, a step that does not, an offer, a
-// collection, the set of processes that can move.
+// The call of a plan at this turn of fourteen. Plans 1 to 6: a step that changes the table, a step that does not, an offer, a
+// collection, the set of processes that can move, a withdrawal.
 pub fn next_call(plan: u8, turn: u8) -> Planned {
     match plan {
         1 => Planned::Step(1),
@@ -28,11 +29,12 @@ pub fn next_call(plan: u8, turn: u8) -> Planned {
         3 => Planned::Offer(0),
         4 => Planned::Collect(0),
         5 => Planned::Runnable,
+        6 => Planned::Withdraw(0),
         _ => meeting_call(turn),
     }
 }
 
-// Whether process 0 is put back after each call: its offers and collections are accepted only once in a row.
+// Whether process 0 is put back after each call: its offers, collections and withdrawals are accepted only once in a row.
 pub fn resets(plan: u8) -> bool {
-    (plan == 3) | (plan == 4)
+    (plan == 3) | (plan == 4) | (plan == 6)
 }

@@ -1,6 +1,6 @@
 //! The model's desk by value: each call takes it and hands it back.
 
-use crate::plan::{moved, Call, Plan, Setting, MEETING, NEXT_TICKET, REFUSED};
+use crate::plan::{given_up, moved, Call, Plan, Setting, MEETING, NEXT_TICKET, REFUSED};
 use model::by_value::{Desk, Guard, GuardList, IndexedMessage, Party, Place};
 use model::by_value::{MOST_GUARDS, MOST_PARTIES};
 use model::{Action, Message, Ticket};
@@ -26,6 +26,11 @@ pub fn run(plan: Plan, at: Setting, calls: u64) -> u64 {
                 let (answer, after) = desk.collect(party);
                 desk = after;
                 answer.map_or(REFUSED, |outcome| u64::from(outcome.partner))
+            }
+            Call::Withdraw(party) => {
+                let (answer, after) = desk.withdraw(party);
+                desk = after;
+                answer.map_or(REFUSED, given_up)
             }
             Call::Movers => {
                 let (answer, after) = desk.movers();
@@ -81,7 +86,7 @@ fn starter(plan: Plan, party: u8) -> Party {
             index: 0,
             message: Message::Nothing,
         }),
-        Plan::Step | Plan::StepSame | Plan::Movers => Place::Scanning(0),
+        Plan::Step | Plan::StepSame | Plan::Movers | Plan::Withdraw => Place::Scanning(0),
     };
     Party {
         guards: GuardList::copied(&[guard_of(party)]),

@@ -1,6 +1,6 @@
 //! The model's desk that is changed in place.
 
-use crate::plan::{moved, Call, Plan, Setting, MEETING, NEXT_TICKET, REFUSED};
+use crate::plan::{given_up, moved, Call, Plan, Setting, MEETING, NEXT_TICKET, REFUSED};
 use model::{Action, Desk, Guard, IndexedMessage, Message, Party, Place, Ticket};
 
 pub fn run(plan: Plan, at: Setting, calls: u64) -> u64 {
@@ -22,6 +22,10 @@ pub fn run(plan: Plan, at: Setting, calls: u64) -> u64 {
             Call::Collect(party) => {
                 let answer = desk.collect(usize::from(party));
                 answer.map_or(REFUSED, |outcome| outcome.partner as u64)
+            }
+            Call::Withdraw(party) => {
+                let answer = desk.withdraw(usize::from(party));
+                answer.map_or(REFUSED, given_up)
             }
             Call::Movers => desk.movers_by_rule().map_or(REFUSED, u64::from),
         };
@@ -70,7 +74,7 @@ fn starter(plan: Plan, party: usize) -> Party {
             index: 0,
             message: Message::Nothing,
         }),
-        Plan::Step | Plan::StepSame | Plan::Movers => Place::Scanning(0),
+        Plan::Step | Plan::StepSame | Plan::Movers | Plan::Withdraw => Place::Scanning(0),
     };
     Party {
         guards: vec![guard_of(party)],

@@ -2,6 +2,7 @@
 //! their sums of answers are the same.
 
 use model::by_value::MOST_PARTIES;
+use model::Withdrawal;
 
 #[derive(Clone, Copy, PartialEq, Eq)]
 pub enum Plan {
@@ -14,12 +15,14 @@ pub enum Plan {
     Offer,
     Collect,
     Movers,
+    Withdraw,
 }
 
 pub enum Call {
     Offer(u8),
     Step(u8),
     Collect(u8),
+    Withdraw(u8),
     Movers,
 }
 
@@ -30,11 +33,12 @@ pub const MEETING: u8 = 14;
 pub const NEXT_TICKET: u32 = MOST_PARTIES as u32;
 
 impl Plan {
-    pub const ALL: [Plan; 6] = [
+    pub const ALL: [Plan; 7] = [
         Plan::Step,
         Plan::StepSame,
         Plan::Offer,
         Plan::Collect,
+        Plan::Withdraw,
         Plan::Movers,
         Plan::Meeting,
     ];
@@ -46,6 +50,7 @@ impl Plan {
             Plan::StepSame => "step, =",
             Plan::Offer => "offer",
             Plan::Collect => "collect",
+            Plan::Withdraw => "withdraw",
             Plan::Movers => "movers",
         }
     }
@@ -57,6 +62,7 @@ impl Plan {
             Plan::StepSame => Call::Step(0),
             Plan::Offer => Call::Offer(0),
             Plan::Collect => Call::Collect(0),
+            Plan::Withdraw => Call::Withdraw(0),
             Plan::Movers => Call::Movers,
             Plan::Meeting => match turn {
                 0 | 1 => Call::Offer(turn),
@@ -68,10 +74,10 @@ impl Plan {
         }
     }
 
-    /// Is party 0 put back after each call? Its offers and collections are
-    /// accepted only once in a row.
+    /// Is party 0 put back after each call? Its offers, collections and
+    /// withdrawals are accepted only once in a row.
     pub fn resets(self) -> bool {
-        matches!(self, Plan::Offer | Plan::Collect)
+        matches!(self, Plan::Offer | Plan::Collect | Plan::Withdraw)
     }
 
     /// How many calls the figure is for.
@@ -99,5 +105,13 @@ pub fn moved(changed: bool) -> u64 {
     match changed {
         true => 2,
         false => 3,
+    }
+}
+
+/// What a withdrawal counts.
+pub fn given_up(answer: Withdrawal) -> u64 {
+    match answer {
+        Withdrawal::Withdrawn => 4,
+        Withdrawal::TooLate => 5,
     }
 }

@@ -14,6 +14,7 @@ pub fn run(plan: Plan, at: Setting, calls: u64) -> u64 {
         Plan::Offer => 3,
         Plan::Collect => 4,
         Plan::Movers => 5,
+        Plan::Withdraw => 6,
     };
     // SAFETY: the function takes any numbers, asks nothing of its caller and
     // touches no memory but its own stack.
