@@ -1,12 +1,11 @@
 -- The book follows every call on a good table.
 use Prim.Native.Nat.{ℕ, suc, _+_, _<_}
 use mathlib.Core.Path.{_≡_, refl, sym, _∙_, ap, subst⁻¹}
-use mathlib.Core.Bool.{true, false, not, _&&_}
+use mathlib.Core.Bool.{true}
 use mathlib.Core.List.{List, [], _∷_, _++_, append-nil}
 use mathlib.Core.Logic.{inr}
 use mathlib.Core.Option.{some, none}
 use native.Mathlib.Omega.{arith}
-use lib.Dec.{ltb}
 use borrow.Author.Tests.{eq-eqb, ne-eqb, lt-ltb}
 use Rattle.alternative.specs.declared.Message.{Message}
 use Rattle.alternative.specs.declared.Guard.{Guard}
@@ -16,7 +15,7 @@ use Rattle.process.specs.declared.Process.{Process}
 use Rattle.rendezvous.specs.declared.ProcessTable.{ProcessTable}
 use Rattle.rendezvous.specs.declared.Answer.{Answer}
 use Rattle.process.specs.Process.{ownList, isOpen}
-use Rattle.rendezvous.specs.Table.{process, put, hasOpenOffer}
+use Rattle.rendezvous.specs.Table.{process, put}
 use Rattle.process.specs.Rules.{atPlace}
 use Rattle.rendezvous.specs.Numbers.{ticket}
 use Rattle.rendezvous.specs.Calls.{entering, offered, collected, givenUp}

@@ -6,7 +6,7 @@ use Rattle.rendezvous.specs.Table.{process, freshTable}
 use Rattle.rendezvous.specs.Numbers.{Said, made, ticket, outcome, withdrawn, tooLate, refusal}
 use Rattle.rendezvous.specs.Run.{Call, Offer, Step, Collect, Withdraw, tableAfter}
 use Rattle.rendezvous.specs.Commands.{Command, New, Do}
-use Rattle.history.specs.Types.{ℕ, _≡_, Bool, true, false, List, [], _∷_, _++_, Option, some, none, replicate, Message, Place, Process, ProcessTable}
+use Rattle.history.specs.Types.{ℕ, _≡_, Bool, true, false, List, [], _∷_, _++_, some, none, replicate, Message, Place, Process, ProcessTable}
 use Rattle.history.specs.Book.{Moment, Joined, Withdrew, emptyHistory, _>>=_}
 use Rattle.history.specs.Machine.{bookAfterAll, madeByAll}
 use Rattle.history.specs.Tables.{tables}

@@ -17,9 +17,12 @@ use Rattle.rendezvous.specs.declared.Act.{Act}
 use Rattle.rendezvous.specs.Types.{Place, Process, Head, ProcessTable, Refusal, Verdict, Answer, Reply}
 use Rattle.rendezvous.specs.Table.{mostProcesses, process, put, withNext}
 use Rattle.rendezvous.specs.WellFormed.{wellFormed}
-use Rattle.rendezvous.specs.Refusals.{require, processTests, processVerdict, listVerdict, stateVerdict, offerTests, offerVerdict, withdrawTests, withdrawVerdict}
-use Rattle.rendezvous.specs.Calls.{ifAccepted, entering, offered, offerList, effectOn, applied, stepped, step, collected, collect, commitCameFirst, givenUp, withdraw}
-use Rattle.rendezvous.specs.Acts.{alone, unlessRefused, offerAct, movedAct, stepAct, collectedAct, collectAct, withdrawnAct, withdrawAct, done, ActsAreCalls}
+use Rattle.rendezvous.specs.Refusals.{require, processTests, processVerdict, listVerdict, stateVerdict, offerTests, offerVerdict, withdrawTests}
+use Rattle.rendezvous.specs.Refusals.{withdrawVerdict}
+use Rattle.rendezvous.specs.Calls.{ifAccepted, entering, offered, offerList, effectOn, applied, stepped, step, collected, collect, commitCameFirst}
+use Rattle.rendezvous.specs.Calls.{givenUp, withdraw}
+use Rattle.rendezvous.specs.Acts.{alone, unlessRefused, offerAct, movedAct, stepAct, collectedAct, collectAct, withdrawnAct, withdrawAct, done}
+use Rattle.rendezvous.specs.Acts.{ActsAreCalls}
 use Rattle.rendezvous.proofs.Steps.{inside}
 
 -- an act that changes nothing: what was read is written again

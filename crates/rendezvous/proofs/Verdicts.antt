@@ -20,7 +20,8 @@ use Rattle.rendezvous.specs.WellFormed.{wellFormed}
 use Rattle.alternative.proofs.Tests.{and-parts}
 use Rattle.process.specs.Process.{isAt, isIdle, openAt}
 use Rattle.process.specs.Fits.{allGuards, partnerFits}
-use Rattle.rendezvous.specs.Refusals.{require, requireGuards, processTests, processVerdict, listVerdict, stateVerdict, offerTests, offerVerdict, withdrawVerdict}
+use Rattle.rendezvous.specs.Refusals.{require, requireGuards, processTests, processVerdict, listVerdict, stateVerdict, offerTests, offerVerdict}
+use Rattle.rendezvous.specs.Refusals.{withdrawVerdict}
 use Rattle.rendezvous.specs.Calls.{commitCameFirst}
 
 never : (r : Refusal) → Verdict.Accepted ≡ Verdict.Refused r → ⊥

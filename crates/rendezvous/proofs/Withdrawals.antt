@@ -1,6 +1,6 @@
 -- A withdrawal takes back exactly an open offer.
 use Prim.Native.Nat.{ℕ}
-use mathlib.Core.Path.{_≡_, refl, sym}
+use mathlib.Core.Path.{_≡_, refl}
 use mathlib.Core.Bool.{Bool, true, false, not, _&&_, cond}
 use native.Mathlib.Omega.{arith}
 use lib.ListN.{length, set, length-set, List·getD-eq-default}
@@ -8,7 +8,7 @@ use lib.Seq.{getD-set-same}
 use lib.Dec.{ltb}
 use borrow.Author.Tests.{lt-ltb, ltb-true, ltb-false}
 use Rattle.process.specs.Process.{nobody, isOpen}
-use Rattle.rendezvous.specs.Types.{Process, ProcessTable, Refusal, Verdict, Answer, Reply}
+use Rattle.rendezvous.specs.Types.{Process, ProcessTable, Verdict, Answer, Reply}
 use Rattle.rendezvous.specs.Table.{process, put, hasOpenOffer}
 use Rattle.rendezvous.specs.Refusals.{withdrawVerdict}
 use Rattle.rendezvous.specs.Calls.{ifAccepted, commitCameFirst, givenUp, withdraw}

@@ -2,7 +2,8 @@
 use Rattle.alternative.specs.Guards.{slots, lent}
 use Rattle.process.specs.Process.{isAt, ifMet, ownGuard}
 use Rattle.process.specs.Rules.{Effect, Neither, Own, Both, changed, atPlace, rule, partnerOf}
-use Rattle.rendezvous.specs.Types.{ℕ, _+_, _≡_, Bool, false, not, _&&_, _||_, cond, List, set, take, Guard, GuardList, TransactionId, Place, Process, ProcessTable, Refusal, Verdict, Answer}
+use Rattle.rendezvous.specs.Types.{ℕ, _+_, _≡_, Bool, false, not, _&&_, _||_, cond, List, set, take, Guard, GuardList, TransactionId, Place, Process}
+use Rattle.rendezvous.specs.Types.{ProcessTable, Refusal, Verdict, Answer}
 use Rattle.rendezvous.specs.Types.{Reply}
 use Rattle.rendezvous.specs.Table.{process, put, withNext, freshTable}
 use Rattle.rendezvous.specs.Refusals.{createVerdict, processVerdict, offerVerdict, withdrawVerdict}

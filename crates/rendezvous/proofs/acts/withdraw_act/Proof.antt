@@ -1,4 +1,3 @@
-use mathlib.Core.Path.{sym, _∙_}
 use borrow.Author.Needs.{needs}
 use Rattle.rendezvous.specs.Acts.{withdrawAct}
 use Rattle.rendezvous.proofs.acts.withdraw_act.Statement.{statement}
