@@ -18,8 +18,8 @@ abbrev pub indexByte : Option ℕ → ℕ
 indexByte none = 0
 indexByte (some i) = i
 
--- By document 01's numbers and letters: a step's place by its letter and its guard index; an outcome by guard index, partner and message; a
--- refusal by its number; a ticket and the set of movers as the word.
+-- By the documents' numbers and letters: a step's place by its letter and its guard index; an outcome by guard index, partner and message; a
+-- refusal by its number; a ticket and the set of movers as the word; what a withdrawal says by the kind alone.
 abbrev pub saidBytes : Said → List ℕ
 saidBytes made = laidOut 0 0 0 Message.Nothing 0
 saidBytes (ticket t) = laidOut 1 0 0 Message.Nothing t

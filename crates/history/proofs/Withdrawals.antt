@@ -13,8 +13,8 @@ use Rattle.rendezvous.specs.Commands.{replyToCommand}
 use Rattle.history.specs.Book.{withRendezvous, committing, enter}
 use Rattle.history.specs.Machine.{bookAfterAll, madeByAll}
 use Rattle.history.specs.Cases.{allSaid}
-use Rattle.history.specs.Withdrawals.{everywhere, told, Withdrawals}
+use Rattle.history.specs.Withdrawals.{everywhere, stories, Withdrawals}
 
 pub withdrawals-hold : Withdrawals
-unfolding guardsMatch anyGuard firstFrom keptMatch nextEnabled slots lent scanFrom handOver rule allGuards allBelow countFits partnerFits listFits processFits fitsAt wellFormed requireGuards createVerdict tableVerdict processVerdict listVerdict stateVerdict offerVerdict withdrawVerdict create entering offered offerList effectOn stepped step collect withdraw setBelow runnableSet runnable replyTo withRendezvous committing enter bookAfterAll madeByAll replyToCommand allSaid everywhere told ofBits lib.Ieee.isNan
-withdrawals-hold = record { places = refl; cases = refl; leaves = refl; stays = (refl, refl, refl, refl); made-run = refl; book-run = refl; tickets = refl }
+unfolding guardsMatch anyGuard firstFrom keptMatch nextEnabled slots lent scanFrom handOver rule allGuards allBelow countFits partnerFits listFits processFits fitsAt wellFormed requireGuards createVerdict tableVerdict processVerdict listVerdict stateVerdict offerVerdict withdrawVerdict create entering offered offerList effectOn stepped step collect withdraw setBelow runnableSet runnable replyTo withRendezvous committing enter bookAfterAll madeByAll replyToCommand allSaid everywhere stories ofBits lib.Ieee.isNan
+withdrawals-hold = record { places = refl; cases = refl; leaves = (refl, refl); stays = (refl, refl); made-run = refl; book-run = refl; tickets = refl }

@@ -133,7 +133,8 @@ abbrev withdrawing : History → ℕ → Option Transaction → Option History
 withdrawing b p none = none
 withdrawing b p (some o) = some (record { next = b .next; opened = enteredFor p none (b .opened); due = b .due; run = b .run ++ (Withdrew (record { p = p; id = o .id }) ∷ []) })
 
--- the book after a call; "every refused call: nothing changes"; of withdrawals, "any other leaves the book as it was"
+-- the book after a call; "every refused call: nothing changes"; of withdrawals, "any other leaves the book as it was". An answer that no such
+-- call gives leaves the book stuck.
 unfoldable pub enter : History → Call → Seen → Option History
 enter b c refused = some b
 enter b (Offer p gs) accepted = offering b p gs (b .opened p) (b .due p)

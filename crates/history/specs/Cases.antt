@@ -104,7 +104,7 @@ starred =
     ∷ case (session (reading 0x40970a3d)) (sessionSays (reading 0x40970a3d))
     ∷ []
 
--- In every case of a list the definitions say what document 01 says.
+-- In every case of a list the definitions say what the documents say.
 abbrev pub Hold : List Case → Type 0
 Hold cases = map (λ c. allSaid (c .start) (c .commands)) cases ≡ map (λ c. c .says) cases
 

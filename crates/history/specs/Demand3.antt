@@ -57,8 +57,8 @@ abbrev pub AllDiffer : List ℕ → Type 0
 AllDiffer [] = Unit {0}
 AllDiffer (t ∷ ts) = NotIn t ts × AllDiffer ts
 
--- The claim for one list of calls on a machine, from state s and book b. "Each call was refused or answered as 1 and 2 say." is no field: every reply of the tables is that of
--- the call's definition (replyTo), which the code is proved to give; "by demands 1 and 2 the calls' definitions may stand for the calls in it".
+-- The claim for one list of calls on a machine, from state s and book b. "Each call was refused or answered as 1 and 2 say.", a withdrawal as CR 1 says, is no
+-- field: every reply of the tables is that of the call's definition (replyTo), which the code is proved to give; "by demands 1 and 2 the calls' definitions may stand for the calls in it".
 pub record Claim (m : Machine) (s : m .State) (b : History) (calls : List Call) : Type 0 where
   -- "The meetings, in the order of their commits, form a run of whole meetings one after another, as document 01's plain book enters them." The book is never stuck.
   pub book : History

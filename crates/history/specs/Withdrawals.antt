@@ -1,12 +1,11 @@
 -- To be believed. CR 1 of document 02, by cases: the answer at every place, what a withdrawal leaves, its refusals in order, the race with a commit, and the run of whole meetings.
 use mathlib.Core.List.{map}
 use Rattle.process.specs.declared.Signal.{Signal}
-use Rattle.process.specs.Process.{freshProcess}
-use Rattle.rendezvous.specs.Table.{process, freshTable}
+use Rattle.rendezvous.specs.Table.{freshTable}
 use Rattle.rendezvous.specs.Numbers.{Said, made, ticket, outcome, withdrawn, tooLate, refusal}
 use Rattle.rendezvous.specs.Run.{Call, Offer, Step, Collect, Withdraw, tableAfter}
 use Rattle.rendezvous.specs.Commands.{Command, New, Do}
-use Rattle.history.specs.Types.{ℕ, _≡_, Bool, true, false, List, [], _∷_, _++_, some, none, replicate, Message, Place, Process, ProcessTable}
+use Rattle.history.specs.Types.{ℕ, _≡_, Bool, true, false, List, [], _∷_, _++_, some, none, replicate, Message, Place, ProcessTable}
 use Rattle.history.specs.Book.{Moment, Joined, Withdrew, emptyHistory, _>>=_}
 use Rattle.history.specs.Machine.{bookAfterAll, madeByAll}
 use Rattle.history.specs.Tables.{tables}
@@ -48,8 +47,8 @@ tried = New 2 ∷ offers 0 (receive 1 ∷ []) ∷ replicate 5 (steps 0) ++ offer
 abbrev triedSays : List Said
 triedSays = made ∷ ticket 0 ∷ at "A" (some 0) ∷ at "P" none ∷ at "O" none ∷ at "H" none ∷ at "W" none ∷ ticket 1 ∷ at "A" (some 0) ∷ at "T" (some 0) ∷ []
 
-unfoldable pub told : List Case
-told =
+unfoldable pub stories : List Case
+stories =
     -- "After 7 and 2, a party at I or M is turned away by 14.": 2 before 14, and 7 before both
     case (New 2 ∷ withdraws 0 ∷ withdraws 2 ∷ []) (made ∷ refusal 14 ∷ refusal 2 ∷ [])
     ∷ record { start = placed (Place.Scanning 1) false; commands = withdraws 0 ∷ withdraws 1 ∷ withdraws 9 ∷ []; says = replicate 3 (refusal 7) }
@@ -62,34 +61,43 @@ told =
     ∷ outcome 0 1 (reading 0x40970a3d) ∷ outcome 0 0 Message.Nothing ∷ [])
     ∷ []
 
--- a record with a signal and a posted list that is not the own one (by the calls alone none is so): "the wake count becomes 1, the party goes to I", and all else stays
-abbrev odd : Place → Bool → Process
-odd place accepting = by-hand 7 place (Signal.Present 0 (reading 0x40970a3d)) accepting (receive 1 ∷ []) (receive 1 ∷ receive 1 ∷ [])
+-- Process 0 at a place, and 1 asleep, both with a signal and with a posted list that is not the own one (by the calls alone none is so).
+abbrev odd : Place → Bool → ProcessTable
+odd place accepting =
+    let signal = Signal.Present 0 (reading 0x40970a3d) in
+    table 2 8 (by-hand 7 place signal accepting (receive 1 ∷ []) (receive 1 ∷ receive 1 ∷ []) ∷ by-hand 6 Place.Asleep signal true (receive 0 ∷ []) (receive 0 ∷ receive 0 ∷ []) ∷ [])
 
-abbrev left : Place → Process
-left place = process (tableAfter (table 2 8 (odd place true ∷ freshProcess ∷ [])) (Withdraw 0)) 0
+abbrev left : Bool → Place → ProcessTable
+left accepting place = tableAfter (odd place accepting) (Withdraw 0)
 
-abbrev Leaves : Type 0
-Leaves = map left (Place.Entering ∷ Place.Scanning 0 ∷ Place.Trying 0 ∷ Place.Posting ∷ Place.Opening ∷ Place.Showing ∷ Place.Asleep ∷ Place.Waiting ∷ []) ≡ replicate 8 (odd Place.Idle false)
+-- "the wake count becomes 1, the party goes to I", and nothing else of the whole table changes: at E, A, T, P, O and S whatever the wake count was, at H and W where it was 0
+abbrev scans : List Place
+scans = Place.Entering ∷ Place.Scanning 0 ∷ Place.Trying 0 ∷ Place.Posting ∷ Place.Opening ∷ Place.Asleep ∷ []
 
--- "the answer is "too late" and nothing changes": the whole table
-abbrev Stays : ProcessTable → Type 0
-Stays t = tableAfter t (Withdraw 0) ≡ t
+abbrev shows : List Place
+shows = Place.Showing ∷ Place.Waiting ∷ []
 
--- Process 0 withdraws while 1 is at T on it, and offers again: 1 does not meet the old offer, and then the new one meets 1.
+abbrev Leaves : Bool → List Place → Type 0
+Leaves accepting places = map (left accepting) places ≡ map (λ place. odd Place.Idle false) places
+
+-- "the answer is "too late" and nothing changes": at C whatever the wake count is, at H and W where it is 1
+abbrev Stays : Bool → List Place → Type 0
+Stays accepting places = map (left accepting) places ≡ map (λ place. odd place accepting) places
+
+-- Process 1 withdraws while 0 is at T on it, and offers again: 0 does not meet the old offer, and then the new one meets 0.
 abbrev again : List Call
 again =
-    Offer 0 (receive 1 ∷ []) ∷ replicate 5 (Step 0) ++ Offer 1 (send 0 0x40970a3d ∷ []) ∷ Step 1 ∷ Step 1 ∷ Withdraw 0 ∷ Offer 0 (receive 1 ∷ [])
-    ∷ replicate 4 (Step 1) ++ replicate 4 (Step 0) ++ Step 1 ∷ Withdraw 1 ∷ Collect 0 ∷ Collect 1 ∷ []
+    Offer 1 (receive 0 ∷ []) ∷ replicate 5 (Step 1) ++ Offer 0 (send 1 0x40970a3d ∷ []) ∷ Step 0 ∷ Step 0 ∷ Withdraw 1 ∷ Offer 1 (receive 0 ∷ [])
+    ∷ replicate 4 (Step 0) ++ replicate 4 (Step 1) ++ Step 0 ∷ Withdraw 0 ∷ Collect 1 ∷ Collect 0 ∷ []
 
 abbrev againRun : List Moment
-againRun = Withdrew (record { p = 0; id = 0 }) ∷ Joined (record { idP = 2; idQ = 1; p = 0; i = 0; q = 1; j = 0; message = reading 0x40970a3d }) ∷ []
+againRun = Withdrew (record { p = 1; id = 0 }) ∷ Joined (record { idP = 2; idQ = 1; p = 1; i = 0; q = 0; j = 0; message = reading 0x40970a3d }) ∷ []
 
 pub record Withdrawals : Type 0 where
   pub places : Hold everywhere
-  pub cases : Hold told
-  pub leaves : Leaves
-  pub stays : Stays (placed (Place.Committed 0 0) true) × Stays (placed (Place.Committed 0 0) false) × Stays (placed Place.Showing false) × Stays (placed Place.Waiting false)
+  pub cases : Hold stories
+  pub leaves : Leaves true (scans ++ shows) × Leaves false scans
+  pub stays : Stays true (Place.Committed 0 0 ∷ []) × Stays false (Place.Committed 0 0 ∷ shows)
   -- a moment of its own, by the tables and by the book, and the tickets of all moments
   pub made-run : madeByAll tables (freshTable 2) again ≡ againRun
   pub book-run : _>>=_ (bookAfterAll tables (freshTable 2) emptyHistory again) (λ b. some (b .run)) ≡ some againRun

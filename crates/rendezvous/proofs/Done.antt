@@ -21,7 +21,7 @@ use Rattle.rendezvous.specs.Refusals.{require, processTests, processVerd
 use Rattle.rendezvous.specs.Refusals.{withdrawVerdict}
 use Rattle.rendezvous.specs.Calls.{ifAccepted, entering, offered, offerList, effectOn, applied, stepped, step, collected, collect, commitCameFirst}
 use Rattle.rendezvous.specs.Calls.{givenUp, withdraw}
-use Rattle.rendezvous.specs.Acts.{alone, unlessRefused, offerAct, movedAct, stepAct, collectedAct, collectAct, withdrawnAct, withdrawAct, done}
+use Rattle.rendezvous.specs.Acts.{alone, unlessRefused, offerAct, movedAct, stepAct, collectedAct, collectAct, withdrawnOrLateAct, withdrawAct, done}
 use Rattle.rendezvous.specs.Acts.{ActsAreCalls}
 use Rattle.rendezvous.proofs.Steps.{inside}
 
@@ -146,7 +146,7 @@ module _ (t : ProcessTable) (p : ℕ) (formed : Bool) (form : formed ≡ wellFor
   unfolding withdrawAct
   withdraw-done j e =
       rw (e, form)
-      (at-places t p j (p % mostProcesses) j (λ x. require (not (isAt "IM" (x .place))) Refusal.NothingOffered Verdict.Accepted) (λ x y. withdrawnAct (t .head) x) (λ a. (inside t p a .own, refl))
+      (at-places t p j (p % mostProcesses) j (λ x. require (not (isAt "IM" (x .place))) Refusal.NothingToWithdraw Verdict.Accepted) (λ x y. withdrawnOrLateAct (t .head) x) (λ a. (inside t p a .own, refl))
       ∙ acts-are-calls .withdraws t p j)
 
   pub withdraw-written : act ≡ withdrawAct formed (t .head) p x → written ≡ withdraw t p

@@ -104,7 +104,7 @@ unfolding withdrawVerdict
 withdraw-passed t p e =
     let a = passed (wellFormed t) Refusal.NotWellFormed _ e in
     let b = passed (ltb p (t .head .n)) Refusal.NoSuchProcess _ (a .1) in
-    let c = passed (not (isAt "IM" (process t p .place))) Refusal.NothingOffered _ (b .1) in
+    let c = passed (not (isAt "IM" (process t p .place))) Refusal.NothingToWithdraw _ (b .1) in
     record { formed = a .0; below = ltb-true p (t .head .n) (b .0); elsewhere = c .0 }
 
 -- there a commit came first exactly where the offer is no longer open

@@ -1,4 +1,4 @@
--- A withdrawal takes back exactly an open offer.
+-- A withdrawal is answered "withdrawn" exactly where an offer is open, which then is open no more.
 use Prim.Native.Nat.{ℕ}
 use mathlib.Core.Path.{_≡_, refl}
 use mathlib.Core.Bool.{Bool, true, false, not, _&&_, cond}

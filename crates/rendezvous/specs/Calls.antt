@@ -65,15 +65,15 @@ collect t p = let x = process t p in ifAccepted (processVerdict t p) t (collecte
 abbrev pub commitCameFirst : Place → Bool → Bool
 commitCameFirst place accepting = isAt "C" place || (isAt "HW" place && not accepting)
 
--- .. "Elsewhere the wake count becomes 1, the party goes to I, and the answer is "withdrawn"."
+-- .. "Elsewhere the wake count becomes 1, the party goes to I, and the answer is "withdrawn".": at wake count 1 a process is not accepting
 abbrev pub givenUp : Process → Process
 givenUp x = changed x Place.Idle (x .signal) false
 
-abbrev pub withdrawn : ProcessTable → ℕ → Process → Reply
-withdrawn t p x = cond (commitCameFirst (x .place) (x .accepting)) (record { answer = Answer.TooLate; table = t }) (record { answer = Answer.Withdrawn; table = put t p (givenUp x) })
+abbrev pub withdrawnOrLate : ProcessTable → ℕ → Process → Reply
+withdrawnOrLate t p x = cond (commitCameFirst (x .place) (x .accepting)) (record { answer = Answer.TooLate; table = t }) (record { answer = Answer.Withdrawn; table = put t p (givenUp x) })
 
 unfoldable pub withdraw : ProcessTable → ℕ → Reply
-withdraw t p = ifAccepted (withdrawVerdict t p) t (withdrawn t p (process t p))
+withdraw t p = ifAccepted (withdrawVerdict t p) t (withdrawnOrLate t p (process t p))
 
 -- "no task's step would change the desk"
 abbrev pub Quiescent : ProcessTable → Type 0

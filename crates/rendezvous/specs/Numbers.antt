@@ -15,7 +15,7 @@ refusalNumber Refusal.NotIdle = 11
 refusalNumber Refusal.LastTransaction = 12
 refusalNumber Refusal.NotMet = 13
 -- CR 1
-refusalNumber Refusal.NothingOffered = 14
+refusalNumber Refusal.NothingToWithdraw = 14
 
 -- What an answer says: a place by its letter, "with the guard index at A, T and C"; an outcome by guard index, partner and message; of a withdrawal "withdrawn" or "too late".
 pub data Said : Type 0 where

@@ -58,7 +58,7 @@ offerVerdict t p list = offerTests (wellFormed t) (t .head) p list (process t p 
 
 -- CR 1, a withdrawal: "After 7 and 2, a party at I or M is turned away by 14."
 abbrev pub withdrawTests : Bool → ℕ → ℕ → Place → Verdict
-withdrawTests formed n p place = processTests formed n p (require (not (isAt "IM" place)) Refusal.NothingOffered Verdict.Accepted)
+withdrawTests formed n p place = processTests formed n p (require (not (isAt "IM" place)) Refusal.NothingToWithdraw Verdict.Accepted)
 
 unfoldable pub withdrawVerdict : ProcessTable → ℕ → Verdict
 withdrawVerdict t p = withdrawTests (wellFormed t) (t .head .n) p (process t p .place)

@@ -1,4 +1,4 @@
--- To be believed. CR 1 of document 02, as a claim about the definitions: a withdrawal takes back exactly an open offer, which then is open no more.
+-- To be believed. CR 1 of document 02, as a claim about the definitions: a withdrawal is answered "withdrawn" exactly where an offer is open, which then is open no more.
 use Rattle.rendezvous.specs.Types.{ℕ, _≡_, false, cond, ProcessTable, Verdict, Answer}
 use Rattle.rendezvous.specs.Table.{hasOpenOffer}
 use Rattle.rendezvous.specs.Refusals.{withdrawVerdict}

@@ -68,7 +68,7 @@ pub enum Refusal {
     NotIdle,
     LastTransaction,
     NotMet,
-    NothingOffered,
+    NothingToWithdraw,
 }
 
 // Whether a call is turned away.
@@ -124,7 +124,7 @@ pub fn acts_are_calls()
     ensures { λ _. ⌜ ActsAreCalls ⌝ }
 {}
 
-// Carries the claim that a withdrawal takes back exactly an open offer.
+// Carries the claim that a withdrawal is answered "withdrawn" exactly where an offer is open, and that it is open no more.
 pub fn withdraws_open()
     ensures { λ _. ⌜ WithdrawsOpen ⌝ }
 {}

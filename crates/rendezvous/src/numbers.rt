@@ -18,7 +18,7 @@ impl Refusal {
             Refusal::NotIdle => 11,
             Refusal::LastTransaction => 12,
             Refusal::NotMet => 13,
-            Refusal::NothingOffered => 14,
+            Refusal::NothingToWithdraw => 14,
         }
     }
 }

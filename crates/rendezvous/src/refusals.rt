@@ -116,7 +116,7 @@ pub fn withdraw_verdict(formed: bool, n: u8, p: u8, place: Place) -> Verdict
         Verdict::Accepted => {
             let letter = place.letter();
             if (letter == b'I') | (letter == b'M') {
-                Verdict::Refused(Refusal::NothingOffered)
+                Verdict::Refused(Refusal::NothingToWithdraw)
             } else {
                 Verdict::Accepted
             }

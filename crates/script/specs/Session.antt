@@ -1,4 +1,4 @@
--- To be believed. Document 01, "The script program": what each line prints, and all that the program prints for its whole input.
+-- To be believed. Document 01, "The script program", with the calls of CR 1 of document 02: what each line prints, and all that the program prints for its whole input.
 use Prim.Native.Nat.{ℕ}
 use mathlib.Core.Bool.{Bool, true, false, cond}
 use mathlib.Core.List.{List, [], _∷_, _++_}
