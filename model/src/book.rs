@@ -1,12 +1,26 @@
-//! The plain book: a run of whole meetings, told from the calls alone.
+//! The plain book: a run of whole meetings and withdrawals, told from the calls
+//! alone.
 
-use crate::call::Call;
-use crate::desk::{OpenOffer, Outcome, Ticket};
+use crate::call::{Call, Given};
+use crate::desk::{OpenOffer, Outcome, Ticket, Withdrawal};
 use crate::guard::{first_match, Guard};
 use crate::message::Message;
 use crate::place::Answer;
+use crate::refusal::Refusal;
 use std::collections::BTreeMap;
 use std::fmt;
+
+/// All that the book is told of a call's answer.
+#[derive(Clone, Copy, Debug, PartialEq, Eq)]
+pub enum Told {
+    Refused,
+    /// The place that a step said.
+    Place(Answer),
+    /// A withdrawal came in time.
+    Withdrawn,
+    /// Any other answer of an accepted call.
+    Accepted,
+}
 
 /// What the book made of one call.
 #[derive(Clone, Copy, Debug, PartialEq, Eq)]
@@ -15,6 +29,14 @@ pub enum Entry {
     Opened(Ticket),
     Met(Meeting),
     Given(Outcome),
+    Withdrew(Ticket),
+}
+
+/// One moment of the run: two offers close by a meeting, or one is withdrawn.
+#[derive(Clone, Copy, Debug, PartialEq, Eq)]
+pub enum Moment {
+    Met(Meeting),
+    Withdrew { party: usize, ticket: Ticket },
 }
 
 /// Guard `i` of party `p`, who committed, met guard `j` of party `q`.
@@ -40,6 +62,7 @@ pub enum Stuck {
     NoGuard { party: usize, index: usize },
     NoMatch { party: usize, index: usize },
     NothingDue { party: usize },
+    NothingToWithdraw { party: usize },
 }
 
 #[derive(Clone, Debug, Default)]
@@ -47,34 +70,58 @@ pub struct Book {
     open: BTreeMap<usize, OpenOffer>,
     due: BTreeMap<usize, Outcome>,
     next_ticket: Ticket,
-    meetings: Vec<Meeting>,
+    moments: Vec<Moment>,
+}
+
+impl Told {
+    /// Of a desk's answer, what the book may see.
+    pub fn of(answer: &Result<Given, Refusal>) -> Told {
+        match *answer {
+            Err(_) => Told::Refused,
+            Ok(Given::Place(Some(place))) => Told::Place(place),
+            Ok(Given::Withdrawal(Withdrawal::Withdrawn)) => Told::Withdrawn,
+            Ok(_) => Told::Accepted,
+        }
+    }
+}
+
+impl Moment {
+    /// The tickets of the offers that close.
+    pub fn tickets(&self) -> Vec<Ticket> {
+        match self {
+            Moment::Met(meeting) => vec![meeting.p_ticket, meeting.q_ticket],
+            Moment::Withdrew { ticket, .. } => vec![*ticket],
+        }
+    }
 }
 
 impl Book {
-    /// Enters one call. `answer` is the place that a step said, if it said one.
-    /// A stuck book stays as it was.
-    pub fn feed(
-        &mut self,
-        call: &Call,
-        refused: bool,
-        answer: Option<Answer>,
-    ) -> Result<Entry, Stuck> {
-        if refused {
-            return Ok(Entry::Unchanged);
-        }
-        match (call, answer) {
+    /// Enters one call. A stuck book stays as it was.
+    pub fn feed(&mut self, call: &Call, told: Told) -> Result<Entry, Stuck> {
+        match (call, told) {
+            (_, Told::Refused) => Ok(Entry::Unchanged),
             (Call::Offer { party, guards }, _) => self.offer(*party, guards),
-            (Call::Step { party }, Some(Answer { letter: 'C', index })) => {
+            (Call::Step { party }, Told::Place(Answer { letter: 'C', index })) => {
                 let index = index.ok_or(Stuck::CommitWithoutIndex { party: *party })?;
                 self.commit(*party, index)
             }
             (Call::Collect { party }, _) => self.collect(*party),
-            (Call::Step { .. } | Call::Movers, _) => Ok(Entry::Unchanged),
+            (Call::Withdraw { party }, Told::Withdrawn) => self.withdraw(*party),
+            (Call::Step { .. } | Call::Withdraw { .. } | Call::Movers, _) => Ok(Entry::Unchanged),
         }
     }
 
-    pub fn meetings(&self) -> &[Meeting] {
-        &self.meetings
+    /// The run of whole meetings, with the withdrawals among them.
+    pub fn moments(&self) -> &[Moment] {
+        &self.moments
+    }
+
+    /// The meetings of the run alone.
+    pub fn meetings(&self) -> impl Iterator<Item = &Meeting> {
+        self.moments.iter().filter_map(|moment| match moment {
+            Moment::Met(meeting) => Some(meeting),
+            Moment::Withdrew { .. } => None,
+        })
     }
 
     /// The open offers by party.
@@ -153,12 +200,20 @@ impl Book {
         self.open.remove(&q);
         self.due.insert(p, outcome(i, q, to_p));
         self.due.insert(q, outcome(j, p, to_q));
-        self.meetings.push(meeting);
+        self.moments.push(Moment::Met(meeting));
     }
 
     fn collect(&mut self, party: usize) -> Result<Entry, Stuck> {
         let given = self.due.remove(&party);
         given.map(Entry::Given).ok_or(Stuck::NothingDue { party })
+    }
+
+    /// Closes the open offer of one party; nothing is due for it.
+    fn withdraw(&mut self, party: usize) -> Result<Entry, Stuck> {
+        let offer = self.open.remove(&party);
+        let ticket = offer.ok_or(Stuck::NothingToWithdraw { party })?.ticket;
+        self.moments.push(Moment::Withdrew { party, ticket });
+        Ok(Entry::Withdrew(ticket))
     }
 }
 
@@ -194,6 +249,9 @@ impl fmt::Display for Stuck {
             }
             Stuck::NothingDue { party } => {
                 write!(out, "party {party} collects but nothing is due")
+            }
+            Stuck::NothingToWithdraw { party } => {
+                write!(out, "party {party} withdraws but has no open offer")
             }
         }
     }

@@ -1,6 +1,6 @@
 //! The calls on a desk, as a script writes them and as the book is fed them.
 
-use crate::desk::{Desk, Outcome, Ticket};
+use crate::desk::{Desk, Outcome, Ticket, Withdrawal};
 use crate::guard::Guard;
 use crate::place::Answer;
 use crate::refusal::Refusal;
@@ -11,6 +11,7 @@ pub enum Call {
     Offer { party: usize, guards: Vec<Guard> },
     Step { party: usize },
     Collect { party: usize },
+    Withdraw { party: usize },
     Movers,
 }
 
@@ -21,6 +22,7 @@ pub enum Given {
     /// The new place of a step; none if nothing changed.
     Place(Option<Answer>),
     Outcome(Outcome),
+    Withdrawal(Withdrawal),
     Set(u32),
 }
 
@@ -31,6 +33,7 @@ impl Call {
             Call::Offer { party, guards } => desk.offer(*party, guards).map(Given::Ticket),
             Call::Step { party } => desk.step(*party).map(Given::Place),
             Call::Collect { party } => desk.collect(*party).map(Given::Outcome),
+            Call::Withdraw { party } => desk.withdraw(*party).map(Given::Withdrawal),
             Call::Movers => desk.movers().map(Given::Set),
         }
     }

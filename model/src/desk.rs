@@ -39,6 +39,14 @@ pub struct Outcome {
     pub message: Message,
 }
 
+/// What a withdrawal says.
+#[derive(Clone, Copy, Debug, PartialEq, Eq)]
+pub enum Withdrawal {
+    Withdrawn,
+    /// A commit came first.
+    TooLate,
+}
+
 #[derive(Clone, Debug, PartialEq, Eq)]
 pub struct OpenOffer {
     pub party: usize,
@@ -125,6 +133,23 @@ impl Desk {
             partner: record.guards[index].partner,
             message,
         })
+    }
+
+    /// Takes the party's offer back, unless a commit came first.
+    pub fn withdraw(&mut self, party: usize) -> Result<Withdrawal, Refusal> {
+        self.check_form_and_party(party)?;
+        let record = &mut self.parties[party];
+        match record.place {
+            Place::Idle | Place::Met(_) => Err(Refusal::NothingOffered),
+            Place::Committed { .. } => Ok(Withdrawal::TooLate),
+            Place::Showing | Place::Waiting if record.wake_count != 0 => Ok(Withdrawal::TooLate),
+            _ => {
+                // With wake count 1 nobody commits on the posted list left here.
+                record.wake_count = 1;
+                record.place = Place::Idle;
+                Ok(Withdrawal::Withdrawn)
+            }
+        }
     }
 
     /// Bit p is 1 exactly if p is a party and a step of p would change the desk.

@@ -1,7 +1,8 @@
 //! A plain model of the desk through which the tasks of one logger meet.
 //!
-//! It is written from document 01 alone, with ordinary vectors and
-//! changes in place, so that it can be compared with any other program.
+//! It is written from document 01 and request 1 of document 02 alone, with
+//! ordinary vectors and changes in place, so that it can be compared with any
+//! other program.
 
 mod book;
 pub mod by_value;
@@ -16,9 +17,9 @@ mod refusal;
 mod rules;
 pub mod script;
 
-pub use book::{Book, Entry, Meeting, Stuck};
+pub use book::{Book, Entry, Meeting, Moment, Stuck, Told};
 pub use call::{Call, Given};
-pub use desk::{Desk, OpenOffer, Outcome, Party, Ticket};
+pub use desk::{Desk, OpenOffer, Outcome, Party, Ticket, Withdrawal};
 pub use guard::{Action, Guard};
 pub use message::Message;
 pub use place::{Answer, IndexedMessage, Place, Word};

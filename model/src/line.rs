@@ -32,6 +32,9 @@ pub fn read(line: &[u8]) -> Option<Command> {
         [b"c", party] => Call::Collect {
             party: small(party)?,
         },
+        [b"w", party] => Call::Withdraw {
+            party: small(party)?,
+        },
         [b"m"] => Call::Movers,
         _ => return None,
     };

@@ -1,4 +1,4 @@
-//! Why a call is turned away, with document 01's numbers.
+//! Why a call is turned away, with the numbers of the documents.
 
 #[derive(Clone, Copy, Debug, PartialEq, Eq)]
 pub enum Refusal {
@@ -13,6 +13,7 @@ pub enum Refusal {
     NotIdle = 11,
     TicketsUsedUp = 12,
     NotMet = 13,
+    NothingOffered = 14,
 }
 
 impl Refusal {

@@ -1,7 +1,7 @@
 //! The script program as a function from all input bytes to all output bytes.
 
 use crate::call::Call;
-use crate::desk::Desk;
+use crate::desk::{Desk, Withdrawal};
 use crate::line::{read, Command};
 use crate::refusal::Refusal;
 
@@ -58,6 +58,10 @@ fn answer_call(desk: &mut Desk, call: Call) -> Result<String, Refusal> {
             let (index, partner) = (outcome.index, outcome.partner);
             Ok(format!("c {party} {index} {partner} {}", outcome.message))
         }
+        Call::Withdraw { party } => match desk.withdraw(party)? {
+            Withdrawal::Withdrawn => Ok(format!("w {party} ok")),
+            Withdrawal::TooLate => Ok(format!("w {party} late")),
+        },
         Call::Movers => Ok(format!("m {:08x}", desk.movers()?)),
     }
 }

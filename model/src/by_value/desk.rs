@@ -3,7 +3,7 @@
 use super::form::in_form;
 use super::record::{Guard, GuardList, IndexedMessage, Party, Place, MOST_GUARDS};
 use super::rules;
-use crate::desk::Ticket;
+use crate::desk::{Ticket, Withdrawal};
 use crate::message::Message;
 use crate::refusal::Refusal;
 
@@ -79,6 +79,25 @@ impl Desk {
             message,
         };
         (Ok(outcome), self)
+    }
+
+    /// Takes the party's offer back, unless a commit came first.
+    pub fn withdraw(mut self, party: u8) -> (Result<Withdrawal, Refusal>, Desk) {
+        if let Err(refusal) = self.check_party(party) {
+            return (Err(refusal), self);
+        }
+        let record = self.party_mut(party);
+        let answer = match record.place {
+            Place::Idle | Place::Met(_) => Err(Refusal::NothingOffered),
+            Place::Committed { .. } => Ok(Withdrawal::TooLate),
+            Place::Showing | Place::Waiting if record.wake_count != 0 => Ok(Withdrawal::TooLate),
+            _ => {
+                record.wake_count = 1;
+                record.place = Place::Idle;
+                Ok(Withdrawal::Withdrawn)
+            }
+        };
+        (answer, self)
     }
 
     /// Bit p is 1 exactly if p is a party and a step of p would change the desk.

@@ -104,6 +104,12 @@ fn compare_collect(desk: &mut Desk, party: u8) {
     assert_eq!(after, value_of(desk));
 }
 
+fn compare_withdraw(desk: &mut Desk, party: u8) {
+    let (answer, after) = value_of(desk).withdraw(party);
+    assert_eq!(answer, desk.withdraw(usize::from(party)));
+    assert_eq!(after, value_of(desk));
+}
+
 fn compare_movers(desk: &Desk) {
     let (answer, after) = value_of(desk).movers();
     assert_eq!(answer, desk.movers());
@@ -132,6 +138,7 @@ fn compare_calls(draw: &mut Draw, desk: &Desk) {
         }
         compare_step(&mut desk.clone(), party);
         compare_collect(&mut desk.clone(), party);
+        compare_withdraw(&mut desk.clone(), party);
     }
 }
 
@@ -209,6 +216,7 @@ fn random_runs() {
                 0 | 1 => compare_offer(&mut desk, party, &guards),
                 2 => compare_collect(&mut desk, party),
                 3 => compare_movers(&desk),
+                4 if draw.random.one_in(4) => compare_withdraw(&mut desk, party),
                 _ => compare_step(&mut desk, party),
             }
         }

@@ -2,7 +2,7 @@
 //! only by its own refusals, and a refused call leaves the desk bit for bit.
 
 use crate::draw::Draw;
-use model::Desk;
+use model::{Desk, Withdrawal};
 
 /// Makes one call on a copy; gives the refusal's number, or 0.
 fn refused<T>(
@@ -32,12 +32,14 @@ fn check_calls(draw: &mut Draw, desk: &Desk) -> bool {
         for number in [
             refused(desk, &[2, 7], |d| d.step(party)),
             refused(desk, &[2, 7, 13], |d| d.collect(party)),
+            refused(desk, &[2, 7, 14], |d| d.withdraw(party)),
             refused(desk, &offer, |d| d.offer(party, &guards)),
         ] {
             assert_eq!(number == 7, out_of_form);
             assert!(out_of_form || (number == 2) == (party >= desk.n));
         }
         check_step(desk, party, movers.unwrap_or(0));
+        check_withdrawal(desk, party);
     }
     out_of_form
 }
@@ -54,6 +56,21 @@ fn check_step(desk: &Desk, party: usize, movers: u32) {
     if let Some(answer) = answer {
         assert_eq!(answer, stepped.parties[party].place.answer());
     }
+}
+
+/// A withdrawal is answered "withdrawn" exactly if the party's offer was open,
+/// and then that offer is open no more; "too late" changes nothing.
+fn check_withdrawal(desk: &Desk, party: usize) {
+    let mut after = desk.clone();
+    let Ok(answer) = after.withdraw(party) else {
+        return;
+    };
+    let mut open = desk.open_offers();
+    let was_open = open.iter().any(|offer| offer.party == party);
+    assert_eq!(answer == Withdrawal::Withdrawn, was_open);
+    assert_eq!(answer == Withdrawal::TooLate, after == *desk);
+    open.retain(|offer| offer.party != party);
+    assert_eq!(after.open_offers(), open);
 }
 
 /// Checks so many desks and gives how many of them were out of form.

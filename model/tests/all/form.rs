@@ -27,6 +27,7 @@ fn check_out_of_form(what: &str, damage: impl Fn(&mut Desk)) {
         assert_eq!(offered, Err(refused), "{what}");
         assert_eq!(damaged.step(party), Err(refused), "{what}");
         assert_eq!(damaged.collect(party), Err(refused), "{what}");
+        assert_eq!(damaged.withdraw(party), Err(refused), "{what}");
     }
     assert_eq!(damaged.movers(), Err(Refusal::OutOfForm), "{what}");
     assert!(!damaged.at_rest(), "{what}: no set is given");

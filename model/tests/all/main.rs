@@ -1,5 +1,5 @@
 //! All tests of the model in one program. Expected values come from document 01
-//! or from the reasoning written beside them.
+//! and request 1 of document 02, or from the reasoning written beside them.
 
 mod book;
 mod by_value;
@@ -15,3 +15,4 @@ mod runs;
 mod script;
 mod tools;
 mod values;
+mod withdraw;

@@ -1,45 +1,108 @@
-//! Every order of steps, for a few small sets of offers.
+//! Every order of calls, for a few small sets of offers and withdrawals.
 
 use crate::tools::{fresh, receive, send};
-use model::{Desk, Guard, Message};
+use model::{Book, Call, Desk, Guard, Message, Moment, Ticket, Told};
 use std::collections::BTreeSet;
 
-/// All desks at rest that some order of steps reaches.
-fn rests(start: Desk) -> Vec<Desk> {
+/// A desk with its book, and for each party the calls that it will yet make, in
+/// this order, besides its steps.
+#[derive(Clone, Debug)]
+struct Scene<'a> {
+    desk: Desk,
+    book: Book,
+    plans: Vec<&'a [Call]>,
+}
+
+/// How many meetings and withdrawals there were, and how many offers are open.
+type End = (usize, usize, usize);
+
+impl<'a> Scene<'a> {
+    fn new(plans: &'a [Vec<Call>]) -> Scene<'a> {
+        Scene {
+            desk: fresh(plans.len()),
+            book: Book::default(),
+            plans: plans.iter().map(Vec::as_slice).collect(),
+        }
+    }
+
+    /// Each party may step, or make the next call that it plans.
+    fn next(&self) -> Vec<Scene<'a>> {
+        let mut scenes = Vec::new();
+        for party in 0..self.desk.n {
+            scenes.push(self.after(&Call::Step { party }));
+            if let Some((call, rest)) = self.plans[party].split_first() {
+                let mut scene = self.after(call);
+                scene.plans[party] = rest;
+                scenes.push(scene);
+            }
+        }
+        scenes
+    }
+
+    fn after(&self, call: &Call) -> Scene<'a> {
+        let mut scene = self.clone();
+        let answer = call.on(&mut scene.desk);
+        let entry = scene.book.feed(call, Told::of(&answer));
+        assert!(entry.is_ok(), "{entry:?} after {call:?} on {self:?}");
+        scene
+    }
+
+    /// Each offer has met, is withdrawn or is open, one of the three and once;
+    /// at rest no two open offers match.
+    fn check(&self) {
+        let open = self.desk.open_offers();
+        assert_eq!(open, self.book.open_offers());
+        let closed = self.book.moments().iter().flat_map(Moment::tickets);
+        let mut tickets: Vec<Ticket> = closed.chain(open.iter().map(|o| o.ticket)).collect();
+        tickets.sort();
+        let given: Vec<Ticket> = (0..self.desk.next_ticket.0).map(Ticket).collect();
+        assert_eq!(tickets, given);
+        if self.desk.at_rest() {
+            for (index, one) in open.iter().enumerate() {
+                assert!(open[index + 1..].iter().all(|other| !one.matches(other)));
+            }
+        }
+    }
+
+    fn is_over(&self) -> bool {
+        self.desk.at_rest() && self.plans.iter().all(|plan| plan.is_empty())
+    }
+
+    fn end(&self) -> End {
+        let meetings = self.book.meetings().count();
+        let withdrawals = self.book.moments().len() - meetings;
+        (meetings, withdrawals, self.book.open_offers().len())
+    }
+}
+
+/// Checks every scene that some order of calls reaches, and gives the ends of
+/// those that are over.
+fn ends(plans: &[Vec<Call>]) -> BTreeSet<End> {
+    let start = Scene::new(plans);
     let mut seen = BTreeSet::from([format!("{start:?}")]);
     let mut to_do = vec![start];
-    let mut rests = Vec::new();
-    while let Some(desk) = to_do.pop() {
-        if desk.at_rest() {
-            rests.push(desk);
-            continue;
+    let mut ends = BTreeSet::new();
+    while let Some(scene) = to_do.pop() {
+        scene.check();
+        if scene.is_over() {
+            ends.insert(scene.end());
         }
-        for party in 0..desk.n {
-            let mut next = desk.clone();
-            next.step(party).expect("a reached desk is in form");
+        for next in scene.next() {
             if seen.insert(format!("{next:?}")) {
                 to_do.push(next);
             }
         }
     }
-    rests
+    ends
 }
 
-/// Offers one list for each party, in the order of the parties, and gives the
-/// numbers of offers left open at the desks at rest.
-fn open_counts(lists: &[&[Guard]]) -> BTreeSet<usize> {
-    let mut desk = fresh(lists.len());
-    for (party, guards) in lists.iter().enumerate() {
-        desk.offer(party, guards).expect("the list is good");
-    }
-    let rests = rests(desk);
-    for desk in &rests {
-        let offers = desk.open_offers();
-        for (index, one) in offers.iter().enumerate() {
-            assert!(offers[index + 1..].iter().all(|other| !one.matches(other)));
-        }
-    }
-    rests.iter().map(|desk| desk.open_offers().len()).collect()
+fn offer(party: usize, guards: &[Guard]) -> Call {
+    let guards = guards.to_vec();
+    Call::Offer { party, guards }
+}
+
+fn withdraw(party: usize) -> Call {
+    Call::Withdraw { party }
 }
 
 fn sends(partner: usize) -> Guard {
@@ -47,34 +110,89 @@ fn sends(partner: usize) -> Guard {
 }
 
 #[test]
-fn two_that_match_have_met_at_every_rest() {
-    assert_eq!(
-        open_counts(&[&[sends(1)], &[receive(0)]]),
-        BTreeSet::from([0])
-    );
+fn two_that_match_have_met_at_every_end() {
+    let plans = [vec![offer(0, &[sends(1)])], vec![offer(1, &[receive(0)])]];
+    assert_eq!(ends(&plans), BTreeSet::from([(1, 0, 0)]));
 }
 
 #[test]
 fn two_that_do_not_match_never_meet() {
-    assert_eq!(
-        open_counts(&[&[sends(1)], &[sends(0)]]),
-        BTreeSet::from([2])
-    );
+    let plans = [vec![offer(0, &[sends(1)])], vec![offer(1, &[sends(0)])]];
+    assert_eq!(ends(&plans), BTreeSet::from([(0, 0, 2)]));
 }
 
 #[test]
 fn in_a_ring_of_three_two_meet_and_one_stays() {
     // Each sends to the next and receives from the one before.
-    let lists: [&[Guard]; 3] = [
-        &[sends(1), receive(2)],
-        &[sends(2), receive(0)],
-        &[sends(0), receive(1)],
+    let plans = [
+        vec![offer(0, &[sends(1), receive(2)])],
+        vec![offer(1, &[sends(2), receive(0)])],
+        vec![offer(2, &[sends(0), receive(1)])],
     ];
-    assert_eq!(open_counts(&lists), BTreeSet::from([1]));
+    assert_eq!(ends(&plans), BTreeSet::from([(1, 0, 1)]));
 }
 
 #[test]
 fn of_two_senders_one_meets_the_receiver() {
-    let lists: [&[Guard]; 3] = [&[receive(1), receive(2)], &[sends(0)], &[sends(0)]];
-    assert_eq!(open_counts(&lists), BTreeSet::from([1]));
+    let plans = [
+        vec![offer(0, &[receive(1), receive(2)])],
+        vec![offer(1, &[sends(0)])],
+        vec![offer(2, &[sends(0)])],
+    ];
+    assert_eq!(ends(&plans), BTreeSet::from([(1, 0, 1)]));
+}
+
+#[test]
+fn when_one_withdraws_both_have_met_or_the_other_stays() {
+    let plans = [
+        vec![offer(0, &[sends(1)]), withdraw(0)],
+        vec![offer(1, &[receive(0)])],
+    ];
+    assert_eq!(ends(&plans), BTreeSet::from([(1, 0, 0), (0, 1, 1)]));
+}
+
+#[test]
+fn when_both_withdraw_both_have_met_or_neither() {
+    let plans = [
+        vec![offer(0, &[sends(1)]), withdraw(0)],
+        vec![offer(1, &[receive(0)]), withdraw(1)],
+    ];
+    assert_eq!(ends(&plans), BTreeSet::from([(1, 0, 0), (0, 2, 0)]));
+}
+
+#[test]
+fn two_that_withdraw_and_offer_again_meet_once() {
+    // The new offer of one may meet the old one of the other. Who has met with
+    // its old offer does not collect, and so its new offer is turned away.
+    let plan = |party, guard| {
+        vec![
+            offer(party, &[guard]),
+            withdraw(party),
+            offer(party, &[guard]),
+        ]
+    };
+    let plans = [plan(0, sends(1)), plan(1, receive(0))];
+    let met_once = [(1, 0, 0), (1, 1, 0), (1, 2, 0)];
+    assert_eq!(ends(&plans), BTreeSet::from(met_once));
+}
+
+#[test]
+fn when_a_receiver_withdraws_one_sender_has_met_it_or_both_stay() {
+    let plans = [
+        vec![offer(0, &[receive(1), receive(2)]), withdraw(0)],
+        vec![offer(1, &[sends(0)])],
+        vec![offer(2, &[sends(0)])],
+    ];
+    assert_eq!(ends(&plans), BTreeSet::from([(1, 0, 1), (0, 1, 2)]));
+}
+
+#[test]
+fn when_all_of_a_ring_withdraw_two_have_met_or_none() {
+    let plan = |party, guards: [Guard; 2]| vec![offer(party, &guards), withdraw(party)];
+    let plans = [
+        plan(0, [sends(1), receive(2)]),
+        plan(1, [sends(2), receive(0)]),
+        plan(2, [sends(0), receive(1)]),
+    ];
+    assert_eq!(ends(&plans), BTreeSet::from([(1, 1, 0), (0, 3, 0)]));
 }

@@ -179,7 +179,27 @@ fn an_accepted_collection_changes_the_place_alone() {
 }
 
 #[test]
-fn refusals_have_the_numbers_of_the_document() {
+fn withdrawals_are_refused_at_idle_and_met() {
+    for place in [vec![Place::Idle], busy_places()].concat() {
+        let mut desk = desk_with_party_0_at(place);
+        let before = desk.clone();
+        // 2 comes before 14: party 3 is none, and so is at no place.
+        for party in [3, 4, 32, 255, usize::MAX] {
+            assert_eq!(desk.withdraw(party), Err(Refusal::NoSuchParty));
+        }
+        assert_eq!(desk, before);
+        let answer = desk.withdraw(0);
+        if let Place::Idle | Place::Met(_) = place {
+            assert_eq!(answer, Err(Refusal::NothingOffered), "{place:?}");
+            assert_eq!(desk, before);
+        } else {
+            assert!(answer.is_ok(), "{place:?}");
+        }
+    }
+}
+
+#[test]
+fn refusals_have_the_numbers_of_the_documents() {
     let numbers = [
         (Refusal::PartyCount, 1),
         (Refusal::NoSuchParty, 2),
@@ -192,6 +212,7 @@ fn refusals_have_the_numbers_of_the_document() {
         (Refusal::NotIdle, 11),
         (Refusal::TicketsUsedUp, 12),
         (Refusal::NotMet, 13),
+        (Refusal::NothingOffered, 14),
     ];
     for (refusal, number) in numbers {
         assert_eq!(refusal.number(), number);

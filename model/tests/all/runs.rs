@@ -2,17 +2,20 @@
 
 use crate::tools::{fresh, Xorshift};
 use model::{
-    Action, Answer, Book, Call, Desk, Entry, Given, Guard, Message, Place, Refusal, Ticket,
+    Action, Answer, Book, Call, Desk, Entry, Given, Guard, Message, Moment, Place, Refusal, Ticket,
+    Told, Withdrawal,
 };
 use std::collections::BTreeSet;
+use std::ops::{Range, RangeInclusive};
 
 /// A desk with its book, and what the run has seen so far.
 struct Run {
     desk: Desk,
     book: Book,
-    met_tickets: BTreeSet<Ticket>,
+    closed: BTreeSet<Ticket>,
     rests: usize,
     collections: usize,
+    too_late: usize,
 }
 
 impl Run {
@@ -20,9 +23,10 @@ impl Run {
         Run {
             desk: fresh(n),
             book: Book::default(),
-            met_tickets: BTreeSet::new(),
+            closed: BTreeSet::new(),
             rests: 0,
             collections: 0,
+            too_late: 0,
         }
     }
 
@@ -30,11 +34,7 @@ impl Run {
     fn call(&mut self, call: &Call) {
         let before = self.desk.clone();
         let given = call.on(&mut self.desk);
-        let answer = match given {
-            Ok(Given::Place(answer)) => answer,
-            _ => None,
-        };
-        let entry = match self.book.feed(call, given.is_err(), answer) {
+        let entry = match self.book.feed(call, Told::of(&given)) {
             Ok(entry) => entry,
             Err(stuck) => panic!("the book is stuck: {stuck}"),
         };
@@ -59,13 +59,18 @@ impl Run {
             }
             Given::Place(answer) => {
                 assert_eq!(answer.is_none(), self.desk == *before);
-                self.note_meeting(answer, entry);
+                self.note_step(answer, entry);
+            }
+            Given::Withdrawal(Withdrawal::Withdrawn) => self.note_withdrawal(entry),
+            Given::Withdrawal(Withdrawal::TooLate) => {
+                self.too_late += 1;
+                assert_eq!((&self.desk, entry), (before, Entry::Unchanged));
             }
             Given::Set(_) => assert_eq!(self.desk, *before),
         }
     }
 
-    fn note_meeting(&mut self, answer: Option<Answer>, entry: Entry) {
+    fn note_step(&mut self, answer: Option<Answer>, entry: Entry) {
         let committed = answer.is_some_and(|answer| answer.letter == 'C');
         let Entry::Met(meeting) = entry else {
             assert!(!committed && entry == Entry::Unchanged);
@@ -73,8 +78,22 @@ impl Run {
         };
         assert!(committed);
         assert_eq!(self.book.meetings().last(), Some(&meeting));
-        for ticket in [meeting.p_ticket, meeting.q_ticket] {
-            assert!(self.met_tickets.insert(ticket), "{ticket:?} met twice");
+        self.note_closed(&[meeting.p_ticket, meeting.q_ticket]);
+    }
+
+    fn note_withdrawal(&mut self, entry: Entry) {
+        let Entry::Withdrew(ticket) = entry else {
+            panic!("withdrawn, but the book entered {entry:?}");
+        };
+        self.note_closed(&[ticket]);
+    }
+
+    /// The last moment of the run has these tickets, and no earlier one has.
+    fn note_closed(&mut self, tickets: &[Ticket]) {
+        let last = self.book.moments().last().map(Moment::tickets);
+        assert_eq!(last.as_deref(), Some(tickets));
+        for &ticket in tickets {
+            assert!(self.closed.insert(ticket), "{ticket:?} closes twice");
         }
     }
 
@@ -162,6 +181,7 @@ fn random_call(random: &mut Xorshift, n: usize) -> Call {
         }
         4..=5 => Call::Collect { party },
         6 => Call::Movers,
+        7 => Call::Withdraw { party },
         _ => Call::Step { party },
     }
 }
@@ -181,25 +201,31 @@ fn run_once(random: &mut Xorshift, n: usize, calls: usize) -> Run {
     run
 }
 
-/// Runs the seeds; the counts make sure that the comparison is not empty.
-fn check_runs(seeds: std::ops::Range<u64>, parties: std::ops::RangeInclusive<usize>, calls: usize) {
-    let runs = (seeds.end - seeds.start) as usize;
-    let (mut meetings, mut rests, mut collections) = (0, 0, 0);
-    for seed in seeds {
-        let mut random = Xorshift::new(seed * 0x9e37_79b9 + 1);
-        // The first words after a small seed are small too.
-        for _ in 0..20 {
-            random.word();
-        }
-        let n = parties.start() + random.below(parties.end() - parties.start() + 1);
-        let run = run_once(&mut random, n, calls);
-        meetings += run.book.meetings().len();
-        rests += run.rests;
-        collections += run.collections;
+fn run_from_seed(seed: u64, parties: &RangeInclusive<usize>, calls: usize) -> Run {
+    let mut random = Xorshift::new(seed * 0x9e37_79b9 + 1);
+    // The first words after a small seed are small too.
+    for _ in 0..20 {
+        random.word();
     }
-    // Each run comes to rest four times. With so many calls a run should meet
-    // and collect at least now and then.
-    assert!(rests >= 4 * runs && meetings > runs && collections > runs);
+    let n = parties.start() + random.below(parties.end() - parties.start() + 1);
+    run_once(&mut random, n, calls)
+}
+
+/// Runs the seeds; the counts make sure that the comparison is not empty.
+fn check_runs(seeds: Range<u64>, parties: RangeInclusive<usize>, calls: usize) {
+    let runs: Vec<Run> = seeds
+        .map(|seed| run_from_seed(seed, &parties, calls))
+        .collect();
+    let total = |count: fn(&Run) -> usize| runs.iter().map(count).sum::<usize>();
+    // Each run comes to rest four times. With so many calls a run should meet,
+    // collect and withdraw at least now and then; a commit that comes just
+    // before a withdrawal is rarer.
+    assert!(total(|run| run.rests) >= 4 * runs.len());
+    let meetings = total(|run| run.book.meetings().count());
+    let withdrawals = total(|run| run.book.moments().len()) - meetings;
+    assert!(meetings > runs.len() && withdrawals > runs.len());
+    assert!(total(|run| run.collections) > runs.len());
+    assert!(total(|run| run.too_late) > 0);
 }
 
 #[test]

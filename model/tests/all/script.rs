@@ -56,7 +56,8 @@ const MALFORMED_COMMANDS: &str = "\
     | |n|n |n 2 | n 2|n  2|n\t2|n 2 2|n 2\r|N 2|n2|n 02|n 00|n 256|n 1000|n -1|n -0|\
     n +2|n 2.|n a|n 18446744073709551618|n 4294967298|n 0x2|nn 2|q 0|x 8|=|o|o |o 0 | o 0 1?|\
     o  0 1?|o 0  1?|o 0 1? |o 00 1?|o 256 1?|o -0 1?|o 1?|O 0 1?|s|s |s 0 |s 0 0|s 00|\
-    s 01|s 256|s -1|S 0|s0|c|c 0 0|c 00|c 999|C 0|m |m 0| m|M|mm|n 2n|s ?";
+    s 01|s 256|s -1|S 0|s0|c|c 0 0|c 00|c 999|C 0|m |m 0| m|M|mm|n 2n|s ?|w|w |w 0 |w 0 1|\
+    w  0| w 0|w 00|w 01|w 256|w 999|w -1|w -0|w +0|W 0|w0|w7|w-1|ww 0|w ?|w 1!w7|w ok";
 
 /// Parted by bars.
 const MALFORMED_GUARDS: &str = "\
@@ -95,6 +96,7 @@ fn nothing_runs_before_an_accepted_n() {
         ("m", "x 8"),
         ("s 0", "x 8"),
         ("c 0", "x 8"),
+        ("w 0", "x 8"),
         ("o 0 1?", "x 8"),
         ("o 0", "x 8"),
         ("n 1", "x 1"),
@@ -137,6 +139,8 @@ fn refused_lines() {
         ("s 2", "x 2"),
         ("c 2", "x 2"),
         ("c 255", "x 2"),
+        ("w 2", "x 2"),
+        ("w 255", "x 2"),
         ("o 0 0?", "x 4"),
         ("o 0 2?", "x 4"),
         ("o 0 1? -255!0", "x 4"),
@@ -152,6 +156,7 @@ fn refused_lines() {
         ("o 0 0!r7fc00000", "x 4"),
         ("o 0 -1? -1!0", "x 6"),
         ("c 0", "x 13"),
+        ("w 0", "x 14"),
         ("o 0 1? 1? 1? 1? 1? 1? 1? 1?", "o 0 t0"),
         ("o 0 1?", "x 11"),
         ("o 0 0?", "x 4"),
@@ -247,4 +252,27 @@ fn two_scanning_parties_stand_still_and_fall_asleep() {
         ("s 1", "s 1 S"),
         ("s 0", "s 0 P"),
     ]);
+}
+
+#[test]
+fn withdrawals_are_shown() {
+    check_script(&[
+        ("n 32", "n 32"),
+        // The command is the first field; a message has the letter too.
+        ("o 0 31!w0", "o 0 t0"),
+        ("w 0", "w 0 ok"),
+        ("w 0", "x 14"),
+        ("o 31 0!w-31", "o 31 t1"),
+        ("w 0 ", "x 8"),
+        ("m", "m 80000000"),
+        ("w 31", "w 31 ok"),
+        ("m", "m 00000000"),
+        // The tickets of withdrawn offers are not given again.
+        ("o 0 31?", "o 0 t2"),
+    ]);
+}
+
+#[test]
+fn an_unended_withdrawal_withdraws_nothing() {
+    assert_eq!(run(b"n 2\no 0 1?\nw 0"), b"n 2\no 0 t0\nx 8\n");
 }
