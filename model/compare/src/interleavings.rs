@@ -157,11 +157,11 @@ fn path_to(paths: &Paths, mut at: usize, last: Call) -> Vec<Call> {
 
 /// All that tells two states apart: the table, the book and the offers made.
 /// The open offers of the two agree, so the book adds only what is due and the
-/// tickets that met.
+/// tickets that have ended.
 fn key(state: &State, n: usize) -> Vec<u8> {
     let mut key = state.follow.table.part(n).to_vec();
     key.extend(state.offers_made.iter().map(|&count| count as u8));
-    for ticket in &state.follow.met {
+    for ticket in &state.follow.ended {
         key.extend(ticket.0.to_le_bytes());
     }
     for party in 0..n {

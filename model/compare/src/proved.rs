@@ -3,9 +3,10 @@
 use crate::library::{Library, Reply};
 use crate::rendezvous::{self, word, ANSWER_BYTES, ANSWER_FIRST, ANSWER_KIND};
 use crate::rendezvous::{ANSWER_MESSAGE, ANSWER_SECOND, ANSWER_WORD};
-use crate::rendezvous::{COLLECTED, MADE, MOVED, OFFERED, REFUSED, RUNNABLE, UNCHANGED};
+use crate::rendezvous::{COLLECTED, MADE, MOVED, OFFERED, REFUSED, RUNNABLE};
+use crate::rendezvous::{TOO_LATE, UNCHANGED, WITHDRAWN};
 use crate::wire::{message_of, put_guard, Table};
-use model::{Answer, Call, Given, Guard, Outcome, Ticket};
+use model::{Answer, Call, Given, Guard, Outcome, Ticket, Withdrawal};
 
 pub struct Proved;
 
@@ -27,6 +28,7 @@ impl Library for Proved {
             }
             Call::Step { party } => rendezvous::step(before, *party as u8, out, answer),
             Call::Collect { party } => rendezvous::collect(before, *party as u8, out, answer),
+            Call::Withdraw { party } => rendezvous::withdraw(before, *party as u8, out, answer),
             Call::Movers => rendezvous::runnable(before, out, answer),
         });
         let answer = match read(&said) {
@@ -81,6 +83,8 @@ fn read(answer: &[u8; ANSWER_BYTES]) -> Said {
             message,
         }),
         RUNNABLE => Given::Set(word),
+        WITHDRAWN => Given::Withdrawal(Withdrawal::Withdrawn),
+        TOO_LATE => Given::Withdrawal(Withdrawal::TooLate),
         REFUSED => return Said::Refused(first),
         _ => panic!("the library answers {answer:?}"),
     })
@@ -138,6 +142,14 @@ mod tests {
             given([RUNNABLE, 0, 0], &[], [0, 0, 0, 128]),
             Given::Set(1 << 31)
         );
+        assert_eq!(
+            given([WITHDRAWN, 0, 0], &[], zeros),
+            Given::Withdrawal(Withdrawal::Withdrawn)
+        );
+        assert_eq!(
+            given([TOO_LATE, 0, 0], &[], zeros),
+            Given::Withdrawal(Withdrawal::TooLate)
+        );
     }
 
     #[test]
@@ -182,6 +194,9 @@ mod tests {
         let reply = Proved.call(&table, &Call::Step { party: 2 });
         assert_eq!(reply.answer, Err(2));
         assert_eq!(reply.table, table);
+        let reply = Proved.call(&table, &Call::Withdraw { party: 1 });
+        assert_eq!(reply.answer, Err(14));
+        assert_eq!(reply.table, table);
     }
 
     fn untouched(bytes: &[u8]) -> bool {
@@ -195,10 +210,11 @@ mod tests {
         let guard = receives(true, 1);
         let given = &before[..table];
         type Fills<'a> = &'a dyn Fn(&mut [u8], &mut [u8]) -> bool;
-        let calls: [Fills; 4] = [
+        let calls: [Fills; 5] = [
             &|out, answer| rendezvous::offer(given, 0, &guard, out, answer),
             &|out, answer| rendezvous::step(given, 0, out, answer),
             &|out, answer| rendezvous::collect(given, 0, out, answer),
+            &|out, answer| rendezvous::withdraw(given, 0, out, answer),
             &|out, answer| rendezvous::runnable(given, out, answer),
         ];
         for call in calls {

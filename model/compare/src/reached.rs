@@ -77,7 +77,7 @@ impl Run<'_> {
         }
         self.sums.runs += 1;
         self.sums.sizes.insert(n);
-        self.sums.rendezvous += follow.book.meetings().len() as u64;
+        self.sums.rendezvous += follow.book.meetings().count() as u64;
         Ok(())
     }
 
