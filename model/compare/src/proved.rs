@@ -7,6 +7,7 @@ use crate::rendezvous::{COLLECTED, MADE, MOVED, OFFERED, REFUSED, RUNNABLE};
 use crate::rendezvous::{TOO_LATE, UNCHANGED, WITHDRAWN};
 use crate::wire::{message_of, put_guard, Table};
 use model::{Answer, Call, Given, Guard, Outcome, Ticket, Withdrawal};
+use std::ops::Range;
 
 pub struct Proved;
 
@@ -67,8 +68,10 @@ enum Said {
     Refused(u8),
 }
 
-/// Reads an answer. The library always writes a known kind.
+/// Reads an answer. The library always writes a known kind, and 0 where such an
+/// answer says nothing.
 fn read(answer: &[u8; ANSWER_BYTES]) -> Said {
+    assert!(!has_stray(answer), "the library answers {answer:?}");
     let (first, second) = (answer[ANSWER_FIRST], answer[ANSWER_SECOND]);
     let message = message_of(&answer[ANSWER_MESSAGE..ANSWER_WORD]);
     let word = word(&answer[ANSWER_WORD..]);
@@ -88,6 +91,24 @@ fn read(answer: &[u8; ANSWER_BYTES]) -> Said {
         REFUSED => return Said::Refused(first),
         _ => panic!("the library answers {answer:?}"),
     })
+}
+
+/// True if a byte is not 0 where an answer of its kind says nothing.
+fn has_stray(answer: &[u8; ANSWER_BYTES]) -> bool {
+    let used = used(answer[ANSWER_KIND]);
+    let mut unused = (ANSWER_FIRST..ANSWER_BYTES).filter(|at| !used.contains(at));
+    unused.any(|at| answer[at] != 0)
+}
+
+/// Where an answer of this kind says something past the kind.
+fn used(kind: u8) -> Range<usize> {
+    match kind {
+        OFFERED | RUNNABLE => ANSWER_WORD..ANSWER_BYTES,
+        MOVED => ANSWER_FIRST..ANSWER_MESSAGE,
+        COLLECTED => ANSWER_FIRST..ANSWER_WORD,
+        REFUSED => ANSWER_FIRST..ANSWER_SECOND,
+        _ => 0..0,
+    }
 }
 
 /// A place as a step says it: only A, T and C go with an index.
@@ -150,6 +171,16 @@ mod tests {
             given([TOO_LATE, 0, 0], &[], zeros),
             Given::Withdrawal(Withdrawal::TooLate)
         );
+    }
+
+    #[test]
+    fn a_stray_byte_in_an_answer_is_found() {
+        for kind in [
+            MADE, OFFERED, MOVED, UNCHANGED, REFUSED, WITHDRAWN, TOO_LATE,
+        ] {
+            let with_message = answer([kind, 0, 0], &[1], [0; WORD_BYTES]);
+            assert!(has_stray(&with_message));
+        }
     }
 
     #[test]
