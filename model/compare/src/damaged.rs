@@ -1,4 +1,5 @@
-//! Calls on damaged tables, with a count of every refusal and rule that was hit.
+//! Calls on damaged tables, with a count of every refusal, rule and withdrawal
+//! that was hit.
 
 use crate::damage::{self, POINTS};
 use crate::draw;
@@ -35,7 +36,7 @@ pub fn run(library: &dyn Library, budget: Budget) -> Verdict {
     print!("{}", tally.listed());
     match tally.missed().as_slice() {
         [] => Ok(format!(
-            "damaged tables: {tables} tables, {} calls, every refusal, rule and point hit",
+            "damaged tables: {tables} tables, {} calls, every refusal, rule, withdrawal and point hit",
             tally.calls
         )),
         missed => Err(Finding::new(
