@@ -5,7 +5,7 @@ use crate::library::{both, fresh, line, Library, Reply};
 use crate::reduce::smallest;
 use crate::wire::{encode, Table};
 use model::{Answer, Book, Call, Desk, Entry, Given, Guard, Meeting, OpenOffer, Ticket};
-use model::{Told, Withdrawal};
+use model::{Moment, Told, Withdrawal};
 use std::collections::BTreeSet;
 
 #[derive(Clone)]
@@ -170,6 +170,17 @@ impl Follow {
         expect(
             apart && self.ended.len() + open.len() == self.desk.next_ticket.0 as usize,
             "a ticket is not in exactly one of rendezvous, withdrawn and open",
+        )
+    }
+
+    /// The book's run has every ticket that ended, and none in two moments.
+    pub fn run_is_whole(&self) -> Result<(), String> {
+        let moments = self.book.moments().iter();
+        let mut tickets: Vec<Ticket> = moments.flat_map(Moment::tickets).collect();
+        tickets.sort();
+        expect(
+            tickets.iter().eq(&self.ended),
+            "the run has another ticket, or one twice",
         )
     }
 
