@@ -1,5 +1,5 @@
-//! Which lists the processes offer, for two and three of them: short lists, each
-//! sending guard with a message of its own.
+//! Which lists the processes offer, for two and three of them, and who may
+//! withdraw: short lists, each sending guard with a message of its own.
 
 use crate::random::Random;
 use model::{Action, Guard, Message};
@@ -8,17 +8,28 @@ use model::{Action, Guard, Message};
 pub const PAIRS: usize = 14 * 14;
 pub const TRIPLES: usize = 20 * 20 * 20;
 
-/// For each process the lists that it offers one after the other.
-pub type Plan = Vec<Vec<Vec<Guard>>>;
+/// The lists that a process offers one after the other, and whether it may
+/// withdraw one of the offers.
+#[derive(Clone)]
+pub struct Role {
+    pub lists: Vec<Vec<Guard>>,
+    pub withdraws: bool,
+}
 
-/// First every plan of one offer each for two processes; then every plan of one
-/// offer each for three, shuffled, in turn with plans of further offers, which
-/// have no end.
+/// The role of each process.
+pub type Plan = Vec<Role>;
+
+/// First every plan of one offer each for two processes, both of which may
+/// withdraw; then every plan of one offer each for three, shuffled, some of whom
+/// may withdraw, in turn with plans of further offers, which have no end.
 pub fn plans(seed: u64) -> impl Iterator<Item = Plan> {
     let mut random = Random::new(seed);
     let two = every_pair();
     let mut three = every_triple();
     random.shuffle(&mut three);
+    for role in three.iter_mut().flatten() {
+        role.withdraws = random.one_in(2);
+    }
     let longer = std::iter::from_fn(move || Some(longer_plan(&mut random)));
     two.into_iter().chain(alternate(three, longer))
 }
@@ -44,7 +55,7 @@ fn every_pair() -> Vec<Plan> {
     let mut plans = Vec::new();
     for one in &first {
         for other in &second {
-            plans.push(vec![vec![one.clone()], vec![other.clone()]]);
+            plans.push([one, other].map(|list| offered_once(list)).to_vec());
         }
     }
     plans
@@ -56,16 +67,24 @@ fn every_triple() -> Vec<Plan> {
     for one in &all[0] {
         for two in &all[1] {
             for three in &all[2] {
-                plans.push([one, two, three].map(|list| vec![list.clone()]).to_vec());
+                plans.push([one, two, three].map(|list| offered_once(list)).to_vec());
             }
         }
     }
     plans
 }
 
-/// Two or three processes, one or two of which offer twice.
+fn offered_once(list: &[Guard]) -> Role {
+    Role {
+        lists: vec![list.to_vec()],
+        withdraws: true,
+    }
+}
+
+/// Two processes, or now and then three, one or two of which offer twice. Of
+/// three only that one may withdraw: their graphs are large.
 fn longer_plan(random: &mut Random) -> Plan {
-    let n = 2 + random.below(2);
+    let n = if random.one_in(3) { 3 } else { 2 };
     let twice = random.below(n);
     let both = n == 2 && random.one_in(2);
     (0..n)
@@ -77,7 +96,10 @@ fn longer_plan(random: &mut Random) -> Plan {
                 number(&mut list, party, offer);
                 list
             };
-            (0..count).map(&mut draw).collect()
+            Role {
+                lists: (0..count).map(&mut draw).collect(),
+                withdraws: n == 2 || party == twice,
+            }
         })
         .collect()
 }
