@@ -169,3 +169,20 @@ fn show(desk: &Desk) -> String {
     }
     text
 }
+
+#[cfg(test)]
+mod tests {
+    use super::*;
+    use crate::erring::{Erring, ERRORS};
+    use std::time::Duration;
+
+    #[test]
+    fn errors_in_withdrawals_are_found_and_told_by_one_call() {
+        for (right, wrong) in ERRORS {
+            let time = Duration::from_secs(20);
+            let found = run(&Erring { right, wrong }, Budget { seed: 1, time }).err();
+            let text = found.expect("a difference").text;
+            assert!(text.contains("\ncall: w "), "{text}");
+        }
+    }
+}

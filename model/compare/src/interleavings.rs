@@ -194,6 +194,7 @@ fn key(state: &State, n: usize) -> Vec<u8> {
 #[cfg(test)]
 mod tests {
     use super::*;
+    use crate::erring::{Erring, ERRORS};
     use crate::library::Modelled;
     use crate::plans::{guard, Role};
     use std::time::Duration;
@@ -230,5 +231,15 @@ mod tests {
         let sums = explored(&two(true));
         assert!(sums.pairs == 1 && sums.commits == 0 && sums.rests > 0);
         assert!(sums.withdrawn > 0 && sums.late == 0);
+    }
+
+    #[test]
+    fn errors_in_withdrawals_are_found() {
+        let end = Instant::now() + Duration::from_secs(600);
+        for (right, wrong) in ERRORS {
+            let library = Erring { right, wrong };
+            let found = explore(&library, &two(false), end, &mut Sums::default());
+            assert!(found.is_err_and(|text| text.contains("\nw ")), "{wrong:?}");
+        }
     }
 }

@@ -143,6 +143,7 @@ impl Run<'_> {
 #[cfg(test)]
 mod tests {
     use super::*;
+    use crate::erring::{Erring, ERRORS};
     use crate::library::{Modelled, Reply};
     use crate::wire::Table;
     use model::Message;
@@ -188,5 +189,15 @@ mod tests {
         let found = (31..62).find_map(|seed| one_run(&Exchanged, seed).err());
         let text = found.expect("a difference").text;
         assert!(text.contains("\nc ") && text.lines().count() < 25, "{text}");
+    }
+
+    #[test]
+    fn errors_in_withdrawals_are_found_and_told_in_few_lines() {
+        for (right, wrong) in ERRORS {
+            let library = Erring { right, wrong };
+            let found = (31..62).find_map(|seed| one_run(&library, seed).err());
+            let text = found.expect("a difference").text;
+            assert!(text.contains("\nw ") && text.lines().count() < 25, "{text}");
+        }
     }
 }
