@@ -19,19 +19,20 @@ pub struct Role {
 /// The role of each process.
 pub type Plan = Vec<Role>;
 
-/// First every plan of one offer each for two processes, both of which may
-/// withdraw; then every plan of one offer each for three, shuffled, some of whom
-/// may withdraw, in turn with plans of further offers, which have no end.
+/// First every plan for two processes of one offer each, and of one guard that
+/// each offers twice; both may withdraw. Then every plan of one offer each for
+/// three, shuffled, some of whom may withdraw, in turn with plans of further
+/// offers, which have no end.
 pub fn plans(seed: u64) -> impl Iterator<Item = Plan> {
     let mut random = Random::new(seed);
-    let two = every_pair();
+    let two = every_pair().into_iter().chain(every_pair_twice());
     let mut three = every_triple();
     random.shuffle(&mut three);
     for role in three.iter_mut().flatten() {
         role.withdraws = random.one_in(2);
     }
     let longer = std::iter::from_fn(move || Some(longer_plan(&mut random)));
-    two.into_iter().chain(alternate(three, longer))
+    two.chain(alternate(three, longer))
 }
 
 /// One of each in turn, and the endless ones alone once the others are used up.
@@ -51,11 +52,23 @@ fn alternate(
 }
 
 fn every_pair() -> Vec<Plan> {
-    let (first, second) = (lists(0, 2, true), lists(1, 2, true));
+    pairs([0, 1].map(|party| lists(party, 2, true)), 1)
+}
+
+fn every_pair_twice() -> Vec<Plan> {
+    let mut both = [0, 1].map(|party| lists(party, 2, false));
+    for lists in &mut both {
+        lists.retain(|list| list.len() == 1);
+    }
+    pairs(both, 2)
+}
+
+/// Each list of process 0 with each one of process 1, offered so many times.
+fn pairs(both: [Vec<Vec<Guard>>; 2], times: usize) -> Vec<Plan> {
     let mut plans = Vec::new();
-    for one in &first {
-        for other in &second {
-            plans.push([one, other].map(|list| offered_once(list)).to_vec());
+    for one in &both[0] {
+        for other in &both[1] {
+            plans.push(vec![offered(0, one, times), offered(1, other, times)]);
         }
     }
     plans
@@ -67,16 +80,23 @@ fn every_triple() -> Vec<Plan> {
     for one in &all[0] {
         for two in &all[1] {
             for three in &all[2] {
-                plans.push([one, two, three].map(|list| offered_once(list)).to_vec());
+                let roles = [one, two, three].into_iter().enumerate();
+                plans.push(roles.map(|(party, list)| offered(party, list, 1)).collect());
             }
         }
     }
     plans
 }
 
-fn offered_once(list: &[Guard]) -> Role {
+/// A list that a process offers so many times, with other messages each time.
+fn offered(party: usize, list: &[Guard], times: usize) -> Role {
+    let numbered = |offer| {
+        let mut list = list.to_vec();
+        number(&mut list, party, offer);
+        list
+    };
     Role {
-        lists: vec![list.to_vec()],
+        lists: (0..times).map(numbered).collect(),
         withdraws: true,
     }
 }
@@ -120,7 +140,6 @@ fn lists(party: usize, n: usize, with_disabled: bool) -> Vec<Vec<Guard>> {
         lists.extend(guards.iter().map(|&other| vec![one, other]));
     }
     lists.retain(|list| list.iter().any(|guard| guard.enabled));
-    lists.iter_mut().for_each(|list| number(list, party, 0));
     lists
 }
 
@@ -152,6 +171,7 @@ mod tests {
     #[test]
     fn the_plans_are_all_there() {
         assert_eq!(every_pair().len(), PAIRS);
+        assert_eq!(every_pair_twice().len(), 2 * 2);
         assert_eq!(every_triple().len(), TRIPLES);
     }
 }
