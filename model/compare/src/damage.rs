@@ -263,8 +263,9 @@ pub fn changed_desk(random: &mut Random) -> Desk {
     let mut desk = Desk::new(n).expect("2 to 5 parties");
     for _ in 0..random.below(60) {
         let party = random.below(n);
-        let call = match random.below(4) {
-            0 => draw::offer(random, party, n),
+        let call = match random.below(16) {
+            0..=3 => draw::offer(random, party, n),
+            4 => Call::Withdraw { party },
             _ => Call::Step { party },
         };
         // A refused call is as good as another here.

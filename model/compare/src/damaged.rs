@@ -1,4 +1,5 @@
-//! Calls on damaged tables, with a count of every refusal and rule that was hit.
+//! Calls on damaged tables, with a count of every refusal, rule and withdrawal
+//! that was hit.
 
 use crate::damage::{self, POINTS};
 use crate::draw;
@@ -35,7 +36,7 @@ pub fn run(library: &dyn Library, budget: Budget) -> Verdict {
     print!("{}", tally.listed());
     match tally.missed().as_slice() {
         [] => Ok(format!(
-            "damaged tables: {tables} tables, {} calls, every refusal, rule and point hit",
+            "damaged tables: {tables} tables, {} calls, every refusal, rule, withdrawal and point hit",
             tally.calls
         )),
         missed => Err(Finding::new(
@@ -167,4 +168,21 @@ fn show(desk: &Desk) -> String {
         }
     }
     text
+}
+
+#[cfg(test)]
+mod tests {
+    use super::*;
+    use crate::erring::{Erring, ERRORS};
+    use std::time::Duration;
+
+    #[test]
+    fn errors_in_withdrawals_are_found_and_told_by_one_call() {
+        for (right, wrong) in ERRORS {
+            let time = Duration::from_secs(20);
+            let found = run(&Erring { right, wrong }, Budget { seed: 1, time }).err();
+            let text = found.expect("a difference").text;
+            assert!(text.contains("\ncall: w "), "{text}");
+        }
+    }
 }

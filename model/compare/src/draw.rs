@@ -100,8 +100,8 @@ pub fn list(random: &mut Random, party: usize, n: usize, nan_in: usize) -> Vec<G
         .collect()
 }
 
-/// A good list in which a neighbour is always met in both directions. An offer
-/// cannot be taken back: only with such lists does a desk never run dry.
+/// A good list in which a neighbour is always met in both directions: a desk
+/// with such lists never runs dry.
 pub fn sociable_list(random: &mut Random, party: usize, n: usize) -> Vec<Guard> {
     let mut guards = list(random, party, n, NEVER);
     guards.truncate(6);
@@ -126,7 +126,8 @@ pub fn call(random: &mut Random, n: usize) -> Call {
     match random.below(20) {
         0..=4 => offer(random, party, n),
         5..=6 => Call::Collect { party },
-        7 => Call::Movers,
+        7..=8 => Call::Withdraw { party },
+        9 => Call::Movers,
         _ => Call::Step { party },
     }
 }

@@ -5,6 +5,7 @@ use crate::library::{both, fresh, line, Library, Reply};
 use crate::reduce::smallest;
 use crate::wire::{encode, Table};
 use model::{Answer, Book, Call, Desk, Entry, Given, Guard, Meeting, OpenOffer, Ticket};
+use model::{Moment, Told, Withdrawal};
 use std::collections::BTreeSet;
 
 #[derive(Clone)]
@@ -12,8 +13,9 @@ pub struct Follow {
     pub table: Table,
     pub desk: Desk,
     pub book: Book,
-    /// The tickets that stand in a rendezvous so far.
-    pub met: BTreeSet<Ticket>,
+    /// The tickets that stand in a moment of the run so far: those of a
+    /// rendezvous, or the one of a withdrawal.
+    pub ended: BTreeSet<Ticket>,
 }
 
 impl Follow {
@@ -26,7 +28,7 @@ impl Follow {
                 table,
                 desk,
                 book: Book::default(),
-                met: BTreeSet::new(),
+                ended: BTreeSet::new(),
             }),
         }
     }
@@ -47,23 +49,26 @@ impl Follow {
     /// Feeds the book with the library's answer and checks the clauses.
     fn enter(&mut self, call: &Call, reply: &Reply) -> Result<(), String> {
         let before = self.book.open_offers();
-        let place = match reply.answer {
-            Ok(Given::Place(place)) => place,
-            _ => None,
-        };
         let entry = self
             .book
-            .feed(call, reply.answer.is_err(), place)
+            .feed(call, to_book(&reply.answer))
             .map_err(|stuck| format!("the book is stuck: {stuck}"))?;
         match reply.answer {
             Err(7) => Err("a reached table is refused by 7".to_string()),
             Err(_) => expect(entry == Entry::Unchanged, "a refused call enters something"),
-            Ok(given) => self.accepted(given, entry, &before),
+            Ok(given) => self.accepted(call, given, entry, &before),
         }?;
-        self.open_offers_agree()
+        self.open_offers_agree()?;
+        self.offers_end_once()
     }
 
-    fn accepted(&mut self, given: Given, entry: Entry, before: &[OpenOffer]) -> Result<(), String> {
+    fn accepted(
+        &mut self,
+        call: &Call,
+        given: Given,
+        entry: Entry,
+        before: &[OpenOffer],
+    ) -> Result<(), String> {
         match given {
             Given::Ticket(ticket) => expect(
                 entry == Entry::Opened(ticket),
@@ -74,6 +79,10 @@ impl Follow {
                 "the collection is not what is due",
             ),
             Given::Place(place) => self.stepped(place, entry, before),
+            Given::Withdrawal(withdrawal) => {
+                let own = |offer: &&OpenOffer| *call == Call::Withdraw { party: offer.party };
+                self.withdrew(withdrawal, entry, before.iter().find(own))
+            }
             Given::Set(set) => expect(set != 0 || self.rests(), "at rest two open offers match"),
         }
     }
@@ -96,7 +105,7 @@ impl Follow {
     }
 
     /// A rendezvous joins two offers open until now, on matching guards, and
-    /// neither ticket met before.
+    /// neither ticket stands in an earlier moment.
     fn joined(&mut self, meeting: &Meeting, before: &[OpenOffer]) -> Result<(), String> {
         let find = |party, ticket| {
             before
@@ -117,10 +126,62 @@ impl Follow {
             sender.message() == meeting.message,
             "a rendezvous has another message",
         )?;
-        for ticket in [meeting.p_ticket, meeting.q_ticket] {
-            expect(self.met.insert(ticket), "a ticket stands in two rendezvous")?;
+        self.ends(meeting.p_ticket)?;
+        self.ends(meeting.q_ticket)
+    }
+
+    /// An offer that was open until now is withdrawn, and only such a one.
+    fn withdrew(
+        &mut self,
+        withdrawal: Withdrawal,
+        entry: Entry,
+        open: Option<&OpenOffer>,
+    ) -> Result<(), String> {
+        match (withdrawal, open) {
+            (Withdrawal::Withdrawn, Some(offer)) => {
+                expect(
+                    entry == Entry::Withdrew(offer.ticket),
+                    "the book withdraws another offer",
+                )?;
+                self.ends(offer.ticket)
+            }
+            (Withdrawal::Withdrawn, None) => Err("what is withdrawn was not open".to_string()),
+            (Withdrawal::TooLate, Some(_)) => Err("too late, but the offer was open".to_string()),
+            (Withdrawal::TooLate, None) => expect(
+                entry == Entry::Unchanged,
+                "a withdrawal that is too late enters something",
+            ),
         }
-        Ok(())
+    }
+
+    fn ends(&mut self, ticket: Ticket) -> Result<(), String> {
+        expect(
+            self.ended.insert(ticket),
+            "a ticket stands in two moments of the run",
+        )
+    }
+
+    /// Each ticket given so far stands in a moment of the run or is open, and
+    /// not both. Only tickets that were open come into the run, so that their
+    /// number tells whether one is missing.
+    fn offers_end_once(&self) -> Result<(), String> {
+        let open = self.book.open_offers();
+        let apart = open.iter().all(|offer| !self.ended.contains(&offer.ticket));
+        expect(
+            apart && self.ended.len() + open.len() == self.desk.next_ticket.0 as usize,
+            "a ticket is not in exactly one of rendezvous, withdrawn and open",
+        )
+    }
+
+    /// The book's run has every ticket that ended, and none in two moments.
+    pub fn run_is_whole(&self) -> Result<(), String> {
+        let moments = self.book.moments().iter();
+        let mut tickets: Vec<Ticket> = moments.flat_map(Moment::tickets).collect();
+        tickets.sort();
+        expect(
+            tickets.iter().eq(&self.ended),
+            "the run has another ticket, or one twice",
+        )
     }
 
     /// The table's open offers are the book's, in process, ticket and list.
@@ -139,6 +200,16 @@ impl Follow {
                 .iter()
                 .all(|other| !offers_match(one, other))
         })
+    }
+}
+
+/// All that the book is told of an answer.
+fn to_book(answer: &Result<Given, u8>) -> Told {
+    match *answer {
+        Err(_) => Told::Refused,
+        Ok(Given::Place(Some(place))) => Told::Place(place),
+        Ok(Given::Withdrawal(Withdrawal::Withdrawn)) => Told::Withdrawn,
+        Ok(_) => Told::Accepted,
     }
 }
 

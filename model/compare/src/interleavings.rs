@@ -1,12 +1,13 @@
-//! Every order of calls, for two and three processes with short lists: the
-//! library is driven along each edge of the whole graph of states.
+//! Every order of calls, for two and three processes with short lists, who may
+//! each withdraw one offer at any moment: the library is driven along each edge
+//! of the whole graph of states.
 
 use crate::follow::{told, Follow};
 use crate::library::Library;
 use crate::part::{Budget, Finding, Verdict};
 use crate::plans::{plans, Plan, PAIRS, TRIPLES};
 use crate::wire::put_message;
-use model::{Call, Given};
+use model::{Call, Given, Withdrawal};
 use std::collections::HashSet;
 use std::time::Instant;
 
@@ -19,6 +20,8 @@ struct Sums {
     states: u64,
     calls: u64,
     commits: u64,
+    withdrawn: u64,
+    late: u64,
     rests: u64,
 }
 
@@ -32,14 +35,17 @@ pub fn run(library: &dyn Library, budget: Budget) -> Verdict {
         explore(library, &plan, end, &mut sums).map_err(|text| Finding::new(budget.seed, text))?;
     }
     Ok(format!(
-        "interleavings: every order of {} of {PAIRS} plans for two processes, {} of {TRIPLES} for three \
-         and {} with second offers; {} states, {} calls, {} commits, {} states at rest",
+        "interleavings: every order of {} of {PAIRS} plans for two processes with a withdrawal each, \
+         {} of {TRIPLES} for three and {} with second offers; {} states, {} calls, {} commits, \
+         {} withdrawals, {} too late, {} states at rest",
         sums.pairs,
         sums.triples,
         sums.longer,
         sums.states,
         sums.calls,
         sums.commits,
+        sums.withdrawn,
+        sums.late,
         sums.rests
     ))
 }
@@ -50,7 +56,7 @@ impl Sums {
     }
 
     fn note(&mut self, plan: &Plan) {
-        let once = plan.iter().all(|lists| lists.len() == 1);
+        let once = plan.iter().all(|role| role.lists.len() == 1);
         match (once, plan.len()) {
             (true, 2) => self.pairs += 1,
             (true, _) => self.triples += 1,
@@ -63,6 +69,7 @@ impl Sums {
 struct State {
     follow: Follow,
     offers_made: Vec<usize>,
+    may_withdraw: Vec<bool>,
     path: usize,
 }
 
@@ -81,6 +88,7 @@ fn explore(
     let start = State {
         follow: Follow::new(library, n)?,
         offers_made: vec![0; n],
+        may_withdraw: plan.iter().map(|role| role.withdraws).collect(),
         path: 0,
     };
     let mut paths: Paths = vec![None];
@@ -111,10 +119,13 @@ fn explore(
 /// Every call that this state allows, refused ones too.
 fn calls(plan: &Plan, state: &State) -> Vec<Call> {
     let mut calls = vec![Call::Movers];
-    for (party, lists) in plan.iter().enumerate() {
+    for (party, role) in plan.iter().enumerate() {
         calls.push(Call::Step { party });
         calls.push(Call::Collect { party });
-        if let Some(guards) = lists.get(state.offers_made[party]) {
+        if state.may_withdraw[party] {
+            calls.push(Call::Withdraw { party });
+        }
+        if let Some(guards) = role.lists.get(state.offers_made[party]) {
             let guards = guards.clone();
             calls.push(Call::Offer { party, guards });
         }
@@ -132,6 +143,7 @@ fn edge(
     let mut next = State {
         follow: state.follow.clone(),
         offers_made: state.offers_made.clone(),
+        may_withdraw: state.may_withdraw.clone(),
         path: state.path,
     };
     let answer = next.follow.call(library, call)?;
@@ -139,6 +151,11 @@ fn edge(
     match (answer, call) {
         (Ok(Given::Ticket(_)), Call::Offer { party, .. }) => next.offers_made[*party] += 1,
         (Ok(Given::Place(Some(place))), _) if place.letter == 'C' => sums.commits += 1,
+        (Ok(Given::Withdrawal(Withdrawal::Withdrawn)), Call::Withdraw { party }) => {
+            next.may_withdraw[*party] = false;
+            sums.withdrawn += 1;
+        }
+        (Ok(Given::Withdrawal(Withdrawal::TooLate)), _) => sums.late += 1,
         (Ok(Given::Set(0)), _) => sums.rests += 1,
         _ => {}
     }
@@ -155,13 +172,14 @@ fn path_to(paths: &Paths, mut at: usize, last: Call) -> Vec<Call> {
     calls
 }
 
-/// All that tells two states apart: the table, the book and the offers made.
-/// The open offers of the two agree, so the book adds only what is due and the
-/// tickets that met.
+/// All that tells two states apart: the table, the book, the offers made and who
+/// may still withdraw. The open offers of table and book agree, so the book adds
+/// only what is due and the tickets that have ended.
 fn key(state: &State, n: usize) -> Vec<u8> {
     let mut key = state.follow.table.part(n).to_vec();
     key.extend(state.offers_made.iter().map(|&count| count as u8));
-    for ticket in &state.follow.met {
+    key.extend(state.may_withdraw.iter().map(|&may| u8::from(may)));
+    for ticket in &state.follow.ended {
         key.extend(ticket.0.to_le_bytes());
     }
     for party in 0..n {
@@ -176,8 +194,9 @@ fn key(state: &State, n: usize) -> Vec<u8> {
 #[cfg(test)]
 mod tests {
     use super::*;
+    use crate::erring::{Erring, ERRORS};
     use crate::library::Modelled;
-    use crate::plans::guard;
+    use crate::plans::{guard, Role};
     use std::time::Duration;
 
     fn explored(plan: &Plan) -> Sums {
@@ -188,21 +207,39 @@ mod tests {
         sums
     }
 
+    /// Process 0 sends; process 1 sends or receives.
+    fn two(other_sends: bool) -> Plan {
+        let role = |guard| Role {
+            lists: vec![vec![guard]],
+            withdraws: true,
+        };
+        vec![
+            role(guard(1, true, true)),
+            role(guard(0, other_sends, true)),
+        ]
+    }
+
     #[test]
     fn two_that_match_meet_in_some_orders() {
-        let sums = explored(&vec![
-            vec![vec![guard(1, true, true)]],
-            vec![vec![guard(0, false, true)]],
-        ]);
+        let sums = explored(&two(false));
         assert!(sums.pairs == 1 && sums.commits > 0 && sums.rests > 0);
+        assert!(sums.withdrawn > 0 && sums.late > 0);
     }
 
     #[test]
     fn two_that_do_not_match_never_meet() {
-        let sums = explored(&vec![
-            vec![vec![guard(1, true, true)]],
-            vec![vec![guard(0, true, true)]],
-        ]);
+        let sums = explored(&two(true));
         assert!(sums.pairs == 1 && sums.commits == 0 && sums.rests > 0);
+        assert!(sums.withdrawn > 0 && sums.late == 0);
+    }
+
+    #[test]
+    fn errors_in_withdrawals_are_found() {
+        let end = Instant::now() + Duration::from_secs(600);
+        for (right, wrong) in ERRORS {
+            let library = Erring { right, wrong };
+            let found = explore(&library, &two(false), end, &mut Sums::default());
+            assert!(found.is_err_and(|text| text.contains("\nw ")), "{wrong:?}");
+        }
     }
 }

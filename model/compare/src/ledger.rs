@@ -1,8 +1,9 @@
-//! Messages alone, without table, model or book: what was collected was sent,
-//! to the one who collected it, and nothing is lost or given twice.
+//! Answers alone, without table, model or book: each offer ends once, collected
+//! or withdrawn, or is open at the end; what was collected was sent, to the one
+//! who collected it, and nothing is lost or given twice.
 
 use crate::wire::put_message;
-use model::{Call, Given, Guard, Message, Outcome};
+use model::{Call, Given, Guard, Message, Outcome, Withdrawal};
 use std::collections::{BTreeMap, BTreeSet};
 
 /// Calls in the order in which they were made, each with what it said or the
@@ -15,8 +16,10 @@ type Bytes = Vec<u8>;
 
 #[derive(Default)]
 struct Ledger {
-    /// The list that each process offered last.
-    lists: BTreeMap<usize, Vec<Guard>>,
+    /// The list of each process whose offer has not ended.
+    open: BTreeMap<usize, Vec<Guard>>,
+    withdrawn: usize,
+    late: usize,
     /// Who sends a message to whom.
     sent: BTreeMap<Bytes, (usize, usize)>,
     /// Messages that a sender was told to be gone, and that someone received.
@@ -24,37 +27,74 @@ struct Ledger {
     received: BTreeSet<Bytes>,
 }
 
-/// Checks a history that ends with everything collected, and gives the number
-/// of messages that were handed over.
-pub fn check(history: &History) -> Result<usize, String> {
+/// How the offers of a history ended.
+#[derive(Debug, PartialEq, Eq)]
+pub struct Ends {
+    /// Messages that were handed over, each by a rendezvous of its own.
+    pub messages: usize,
+    /// Withdrawals in time and too late.
+    pub withdrawn: usize,
+    pub late: usize,
+    /// The processes whose offers are open at the end.
+    pub open: Vec<usize>,
+}
+
+/// Checks a history that ends with everything collected.
+pub fn check(history: &History) -> Result<Ends, String> {
     let mut ledger = Ledger::default();
     for (call, answer) in history {
         match (call, answer) {
-            (Call::Offer { party, guards }, Ok(_)) => ledger.offered(*party, guards),
+            (Call::Offer { party, guards }, Ok(_)) => ledger.offered(*party, guards)?,
             (Call::Collect { party }, Ok(Given::Outcome(outcome))) => {
                 ledger.collected(*party, outcome)?
             }
+            (Call::Withdraw { party }, Ok(Given::Withdrawal(Withdrawal::Withdrawn))) => {
+                ledger.withdrew(*party)?
+            }
+            (Call::Withdraw { .. }, Ok(_)) => ledger.late += 1,
             _ => {}
         }
     }
     match ledger.gone == ledger.received {
-        true => Ok(ledger.received.len()),
+        true => Ok(ledger.ends()),
         false => Err("some messages are gone but not received, or the reverse".to_string()),
     }
 }
 
 impl Ledger {
-    fn offered(&mut self, party: usize, guards: &[Guard]) {
+    fn offered(&mut self, party: usize, guards: &[Guard]) -> Result<(), String> {
         for guard in guards.iter().filter(|guard| guard.sends()) {
             self.sent
                 .insert(bytes(guard.message()), (party, guard.partner));
         }
-        self.lists.insert(party, guards.to_vec());
+        match self.open.insert(party, guards.to_vec()) {
+            None => Ok(()),
+            Some(_) => Err(format!("{party} offers again before its offer ended")),
+        }
+    }
+
+    /// After this the process has nothing to collect by, and what another
+    /// received of the offer's messages is never gone.
+    fn withdrew(&mut self, party: usize) -> Result<(), String> {
+        self.withdrawn += 1;
+        match self.open.remove(&party) {
+            Some(_) => Ok(()),
+            None => Err(format!("{party} withdraws an offer that has ended")),
+        }
+    }
+
+    fn ends(self) -> Ends {
+        Ends {
+            messages: self.received.len(),
+            withdrawn: self.withdrawn,
+            late: self.late,
+            open: self.open.into_keys().collect(),
+        }
     }
 
     fn collected(&mut self, party: usize, outcome: &Outcome) -> Result<(), String> {
-        let list = self.lists.get(&party);
-        let guard = list.and_then(|list| list.get(outcome.index));
+        let list = self.open.remove(&party);
+        let guard = list.and_then(|list| list.get(outcome.index).copied());
         let guard = guard.ok_or(format!("{party} collects at a guard that it did not offer"))?;
         if guard.partner != outcome.partner || !guard.enabled {
             return Err(format!("{party} collects {outcome:?} at {guard:?}"));
@@ -120,9 +160,15 @@ mod tests {
         ]
     }
 
+    fn withdraw(party: usize, withdrawal: Withdrawal) -> (Call, Result<Given, u8>) {
+        let given = Given::Withdrawal(withdrawal);
+        (Call::Withdraw { party }, Ok(given))
+    }
+
     #[test]
     fn a_message_that_arrives_once_is_good() {
-        assert_eq!(check(&handed_over()), Ok(1));
+        let ends = check(&handed_over());
+        assert_eq!(ends.map(|ends| ends.messages), Ok(1));
     }
 
     #[test]
@@ -144,6 +190,45 @@ mod tests {
     fn a_message_that_nobody_sent_is_found() {
         let mut history = handed_over();
         history[2] = collect(1, 0, Message::Whole(8));
+        assert!(check(&history).is_err());
+    }
+
+    #[test]
+    fn offers_are_withdrawn_too_late_or_open() {
+        let mut history = handed_over();
+        history.insert(2, withdraw(1, Withdrawal::TooLate));
+        history.push(offer(1, 0, Action::Receive));
+        history.push(withdraw(1, Withdrawal::Withdrawn));
+        history.push(offer(0, 1, Action::Receive));
+        let ends = Ends {
+            messages: 1,
+            withdrawn: 1,
+            late: 1,
+            open: vec![0],
+        };
+        assert_eq!(check(&history), Ok(ends));
+    }
+
+    #[test]
+    fn an_offer_that_ends_twice_is_found() {
+        for at in [2, 4] {
+            let mut history = handed_over();
+            history.insert(at, withdraw(1, Withdrawal::Withdrawn));
+            assert!(check(&history).is_err());
+        }
+    }
+
+    #[test]
+    fn a_message_of_a_withdrawn_offer_is_found() {
+        let mut history = handed_over();
+        history[3] = withdraw(0, Withdrawal::Withdrawn);
+        assert!(check(&history).is_err());
+    }
+
+    #[test]
+    fn an_offer_while_another_is_open_is_found() {
+        let mut history = handed_over();
+        history.insert(2, offer(1, 0, Action::Receive));
         assert!(check(&history).is_err());
     }
 }

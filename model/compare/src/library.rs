@@ -4,7 +4,7 @@
 use crate::rendezvous::{RECORD_ACCEPTING, RECORD_COUNTS, RECORD_OWN, RECORD_POSTED};
 use crate::rendezvous::{RECORD_PLACE, RECORD_SIGNAL, RECORD_TICKET};
 use crate::wire::{decode, encode, normal, one_nan, Table};
-use model::{Action, Call, Desk, Given, Guard, Outcome, Refusal};
+use model::{Action, Call, Desk, Given, Guard, Outcome, Refusal, Withdrawal};
 
 /// What a call says, or the number of its refusal; and the table given back.
 #[derive(Clone, Debug, PartialEq, Eq)]
@@ -49,6 +49,7 @@ fn changes(answer: &Result<Given, u8>) -> bool {
     match answer {
         Ok(Given::Ticket(_) | Given::Outcome(_)) => true,
         Ok(Given::Place(place)) => place.is_some(),
+        Ok(Given::Withdrawal(withdrawal)) => *withdrawal == Withdrawal::Withdrawn,
         Ok(Given::Set(_)) | Err(_) => false,
     }
 }
@@ -120,6 +121,7 @@ pub fn line(call: &Call) -> String {
         }
         Call::Step { party } => format!("s {party}"),
         Call::Collect { party } => format!("c {party}"),
+        Call::Withdraw { party } => format!("w {party}"),
         Call::Movers => "m".to_string(),
     }
 }

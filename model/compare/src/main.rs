@@ -9,6 +9,8 @@ mod arguments;
 mod damage;
 mod damaged;
 mod draw;
+#[cfg(test)]
+mod erring;
 mod follow;
 mod fuzz;
 mod interleavings;

@@ -1,5 +1,5 @@
-//! Which lists the processes offer, for two and three of them: short lists, each
-//! sending guard with a message of its own.
+//! Which lists the processes offer, for two and three of them, and who may
+//! withdraw: short lists, each sending guard with a message of its own.
 
 use crate::random::Random;
 use model::{Action, Guard, Message};
@@ -8,19 +8,31 @@ use model::{Action, Guard, Message};
 pub const PAIRS: usize = 14 * 14;
 pub const TRIPLES: usize = 20 * 20 * 20;
 
-/// For each process the lists that it offers one after the other.
-pub type Plan = Vec<Vec<Vec<Guard>>>;
+/// The lists that a process offers one after the other, and whether it may
+/// withdraw one of the offers.
+#[derive(Clone)]
+pub struct Role {
+    pub lists: Vec<Vec<Guard>>,
+    pub withdraws: bool,
+}
 
-/// First every plan of one offer each for two processes; then every plan of one
-/// offer each for three, shuffled, in turn with plans of further offers, which
-/// have no end.
+/// The role of each process.
+pub type Plan = Vec<Role>;
+
+/// First every plan for two processes of one offer each, and of one guard that
+/// each offers twice; both may withdraw. Then every plan of one offer each for
+/// three, shuffled, some of whom may withdraw, in turn with plans of further
+/// offers, which have no end.
 pub fn plans(seed: u64) -> impl Iterator<Item = Plan> {
     let mut random = Random::new(seed);
-    let two = every_pair();
+    let two = every_pair().into_iter().chain(every_pair_twice());
     let mut three = every_triple();
     random.shuffle(&mut three);
+    for role in three.iter_mut().flatten() {
+        role.withdraws = random.one_in(2);
+    }
     let longer = std::iter::from_fn(move || Some(longer_plan(&mut random)));
-    two.into_iter().chain(alternate(three, longer))
+    two.chain(alternate(three, longer))
 }
 
 /// One of each in turn, and the endless ones alone once the others are used up.
@@ -40,11 +52,23 @@ fn alternate(
 }
 
 fn every_pair() -> Vec<Plan> {
-    let (first, second) = (lists(0, 2, true), lists(1, 2, true));
+    pairs([0, 1].map(|party| lists(party, 2, true)), 1)
+}
+
+fn every_pair_twice() -> Vec<Plan> {
+    let mut both = [0, 1].map(|party| lists(party, 2, false));
+    for lists in &mut both {
+        lists.retain(|list| list.len() == 1);
+    }
+    pairs(both, 2)
+}
+
+/// Each list of process 0 with each one of process 1, offered so many times.
+fn pairs(both: [Vec<Vec<Guard>>; 2], times: usize) -> Vec<Plan> {
     let mut plans = Vec::new();
-    for one in &first {
-        for other in &second {
-            plans.push(vec![vec![one.clone()], vec![other.clone()]]);
+    for one in &both[0] {
+        for other in &both[1] {
+            plans.push(vec![offered(0, one, times), offered(1, other, times)]);
         }
     }
     plans
@@ -56,16 +80,31 @@ fn every_triple() -> Vec<Plan> {
     for one in &all[0] {
         for two in &all[1] {
             for three in &all[2] {
-                plans.push([one, two, three].map(|list| vec![list.clone()]).to_vec());
+                let roles = [one, two, three].into_iter().enumerate();
+                plans.push(roles.map(|(party, list)| offered(party, list, 1)).collect());
             }
         }
     }
     plans
 }
 
-/// Two or three processes, one or two of which offer twice.
+/// A list that a process offers so many times, with other messages each time.
+fn offered(party: usize, list: &[Guard], times: usize) -> Role {
+    let numbered = |offer| {
+        let mut list = list.to_vec();
+        number(&mut list, party, offer);
+        list
+    };
+    Role {
+        lists: (0..times).map(numbered).collect(),
+        withdraws: true,
+    }
+}
+
+/// Two processes, or now and then three, one or two of which offer twice. Of
+/// three only that one may withdraw: their graphs are large.
 fn longer_plan(random: &mut Random) -> Plan {
-    let n = 2 + random.below(2);
+    let n = if random.one_in(3) { 3 } else { 2 };
     let twice = random.below(n);
     let both = n == 2 && random.one_in(2);
     (0..n)
@@ -77,7 +116,10 @@ fn longer_plan(random: &mut Random) -> Plan {
                 number(&mut list, party, offer);
                 list
             };
-            (0..count).map(&mut draw).collect()
+            Role {
+                lists: (0..count).map(&mut draw).collect(),
+                withdraws: n == 2 || party == twice,
+            }
         })
         .collect()
 }
@@ -98,7 +140,6 @@ fn lists(party: usize, n: usize, with_disabled: bool) -> Vec<Vec<Guard>> {
         lists.extend(guards.iter().map(|&other| vec![one, other]));
     }
     lists.retain(|list| list.iter().any(|guard| guard.enabled));
-    lists.iter_mut().for_each(|list| number(list, party, 0));
     lists
 }
 
@@ -130,6 +171,7 @@ mod tests {
     #[test]
     fn the_plans_are_all_there() {
         assert_eq!(every_pair().len(), PAIRS);
+        assert_eq!(every_pair_twice().len(), 2 * 2);
         assert_eq!(every_triple().len(), TRIPLES);
     }
 }

@@ -3,9 +3,11 @@
 use crate::library::{Library, Reply};
 use crate::rendezvous::{self, word, ANSWER_BYTES, ANSWER_FIRST, ANSWER_KIND};
 use crate::rendezvous::{ANSWER_MESSAGE, ANSWER_SECOND, ANSWER_WORD};
-use crate::rendezvous::{COLLECTED, MADE, MOVED, OFFERED, REFUSED, RUNNABLE, UNCHANGED};
+use crate::rendezvous::{COLLECTED, MADE, MOVED, OFFERED, REFUSED, RUNNABLE};
+use crate::rendezvous::{TOO_LATE, UNCHANGED, WITHDRAWN};
 use crate::wire::{message_of, put_guard, Table};
-use model::{Answer, Call, Given, Guard, Outcome, Ticket};
+use model::{Answer, Call, Given, Guard, Outcome, Ticket, Withdrawal};
+use std::ops::Range;
 
 pub struct Proved;
 
@@ -27,6 +29,7 @@ impl Library for Proved {
             }
             Call::Step { party } => rendezvous::step(before, *party as u8, out, answer),
             Call::Collect { party } => rendezvous::collect(before, *party as u8, out, answer),
+            Call::Withdraw { party } => rendezvous::withdraw(before, *party as u8, out, answer),
             Call::Movers => rendezvous::runnable(before, out, answer),
         });
         let answer = match read(&said) {
@@ -65,8 +68,10 @@ enum Said {
     Refused(u8),
 }
 
-/// Reads an answer. The library always writes a known kind.
+/// Reads an answer. The library always writes a known kind, and 0 where such an
+/// answer says nothing.
 fn read(answer: &[u8; ANSWER_BYTES]) -> Said {
+    assert!(!has_stray(answer), "the library answers {answer:?}");
     let (first, second) = (answer[ANSWER_FIRST], answer[ANSWER_SECOND]);
     let message = message_of(&answer[ANSWER_MESSAGE..ANSWER_WORD]);
     let word = word(&answer[ANSWER_WORD..]);
@@ -81,9 +86,29 @@ fn read(answer: &[u8; ANSWER_BYTES]) -> Said {
             message,
         }),
         RUNNABLE => Given::Set(word),
+        WITHDRAWN => Given::Withdrawal(Withdrawal::Withdrawn),
+        TOO_LATE => Given::Withdrawal(Withdrawal::TooLate),
         REFUSED => return Said::Refused(first),
         _ => panic!("the library answers {answer:?}"),
     })
+}
+
+/// True if a byte is not 0 where an answer of its kind says nothing.
+fn has_stray(answer: &[u8; ANSWER_BYTES]) -> bool {
+    let used = used(answer[ANSWER_KIND]);
+    let mut unused = (ANSWER_FIRST..ANSWER_BYTES).filter(|at| !used.contains(at));
+    unused.any(|at| answer[at] != 0)
+}
+
+/// Where an answer of this kind says something past the kind.
+fn used(kind: u8) -> Range<usize> {
+    match kind {
+        OFFERED | RUNNABLE => ANSWER_WORD..ANSWER_BYTES,
+        MOVED => ANSWER_FIRST..ANSWER_MESSAGE,
+        COLLECTED => ANSWER_FIRST..ANSWER_WORD,
+        REFUSED => ANSWER_FIRST..ANSWER_SECOND,
+        _ => 0..0,
+    }
 }
 
 /// A place as a step says it: only A, T and C go with an index.
@@ -138,6 +163,24 @@ mod tests {
             given([RUNNABLE, 0, 0], &[], [0, 0, 0, 128]),
             Given::Set(1 << 31)
         );
+        assert_eq!(
+            given([WITHDRAWN, 0, 0], &[], zeros),
+            Given::Withdrawal(Withdrawal::Withdrawn)
+        );
+        assert_eq!(
+            given([TOO_LATE, 0, 0], &[], zeros),
+            Given::Withdrawal(Withdrawal::TooLate)
+        );
+    }
+
+    #[test]
+    fn a_stray_byte_in_an_answer_is_found() {
+        for kind in [
+            MADE, OFFERED, MOVED, UNCHANGED, REFUSED, WITHDRAWN, TOO_LATE,
+        ] {
+            let with_message = answer([kind, 0, 0], &[1], [0; WORD_BYTES]);
+            assert!(has_stray(&with_message));
+        }
     }
 
     #[test]
@@ -182,6 +225,9 @@ mod tests {
         let reply = Proved.call(&table, &Call::Step { party: 2 });
         assert_eq!(reply.answer, Err(2));
         assert_eq!(reply.table, table);
+        let reply = Proved.call(&table, &Call::Withdraw { party: 1 });
+        assert_eq!(reply.answer, Err(14));
+        assert_eq!(reply.table, table);
     }
 
     fn untouched(bytes: &[u8]) -> bool {
@@ -195,10 +241,11 @@ mod tests {
         let guard = receives(true, 1);
         let given = &before[..table];
         type Fills<'a> = &'a dyn Fn(&mut [u8], &mut [u8]) -> bool;
-        let calls: [Fills; 4] = [
+        let calls: [Fills; 5] = [
             &|out, answer| rendezvous::offer(given, 0, &guard, out, answer),
             &|out, answer| rendezvous::step(given, 0, out, answer),
             &|out, answer| rendezvous::collect(given, 0, out, answer),
+            &|out, answer| rendezvous::withdraw(given, 0, out, answer),
             &|out, answer| rendezvous::runnable(given, out, answer),
         ];
         for call in calls {

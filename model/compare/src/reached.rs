@@ -6,7 +6,7 @@ use crate::library::Library;
 use crate::pace::Pace;
 use crate::part::{Budget, Finding, Verdict};
 use crate::random::Random;
-use model::{Call, Given, Place};
+use model::{Call, Given, Place, Withdrawal};
 use std::collections::BTreeSet;
 
 /// A desk that has not come to rest after so many rounds is a difference.
@@ -20,6 +20,8 @@ struct Sums {
     refused: u64,
     rendezvous: u64,
     collections: u64,
+    withdrawn: u64,
+    late: u64,
     rests: u64,
 }
 
@@ -43,13 +45,15 @@ pub fn run(library: &dyn Library, budget: Budget) -> Verdict {
     }
     Ok(format!(
         "reached tables: {} runs, {} of the 31 numbers of processes, {} calls ({} refused), \
-         {} rendezvous, {} collections, {} times at rest",
+         {} rendezvous, {} collections, {} offers withdrawn, {} too late, {} times at rest",
         sums.runs,
         sums.sizes.len(),
         sums.calls,
         sums.refused,
         sums.rendezvous,
         sums.collections,
+        sums.withdrawn,
+        sums.late,
         sums.rests
     ))
 }
@@ -75,9 +79,10 @@ impl Run<'_> {
             }
             self.settle(&mut follow)?;
         }
+        follow.run_is_whole()?;
         self.sums.runs += 1;
         self.sums.sizes.insert(n);
-        self.sums.rendezvous += follow.book.meetings().len() as u64;
+        self.sums.rendezvous += follow.book.meetings().count() as u64;
         Ok(())
     }
 
@@ -95,6 +100,7 @@ impl Run<'_> {
             }
             Place::Idle => draw::offer(random, party, n),
             Place::Met(_) if !random.one_in(4) => Call::Collect { party },
+            _ if random.one_in(25) => Call::Withdraw { party },
             _ => Call::Step { party },
         }
     }
@@ -104,8 +110,13 @@ impl Run<'_> {
         let call = self.calls.last().expect("one was just put there");
         let answer = follow.call(self.library, call)?;
         self.sums.calls += 1;
-        self.sums.refused += u64::from(answer.is_err());
-        self.sums.collections += u64::from(matches!(answer, Ok(Given::Outcome(_))));
+        match answer {
+            Ok(Given::Outcome(_)) => self.sums.collections += 1,
+            Ok(Given::Withdrawal(Withdrawal::Withdrawn)) => self.sums.withdrawn += 1,
+            Ok(Given::Withdrawal(Withdrawal::TooLate)) => self.sums.late += 1,
+            Err(_) => self.sums.refused += 1,
+            Ok(_) => {}
+        }
         Ok(answer.ok())
     }
 
@@ -132,6 +143,7 @@ impl Run<'_> {
 #[cfg(test)]
 mod tests {
     use super::*;
+    use crate::erring::{Erring, ERRORS};
     use crate::library::{Modelled, Reply};
     use crate::wire::Table;
     use model::Message;
@@ -177,5 +189,15 @@ mod tests {
         let found = (31..62).find_map(|seed| one_run(&Exchanged, seed).err());
         let text = found.expect("a difference").text;
         assert!(text.contains("\nc ") && text.lines().count() < 25, "{text}");
+    }
+
+    #[test]
+    fn errors_in_withdrawals_are_found_and_told_in_few_lines() {
+        for (right, wrong) in ERRORS {
+            let library = Erring { right, wrong };
+            let found = (31..62).find_map(|seed| one_run(&library, seed).err());
+            let text = found.expect("a difference").text;
+            assert!(text.contains("\nw ") && text.lines().count() < 25, "{text}");
+        }
     }
 }

@@ -21,10 +21,11 @@ struct Sums {
     kinds: BTreeMap<String, u64>,
 }
 
-/// The kinds of output line that a script can bring about: each command, and
-/// each refusal but 7 and 12.
-const KINDS: [&str; 14] = [
-    "n", "o", "s", "c", "m", "x 1", "x 2", "x 3", "x 4", "x 5", "x 6", "x 8", "x 11", "x 13",
+/// The kinds of output line that a script can bring about: each command, a
+/// withdrawal in time and too late, and each refusal but 7 and 12.
+const KINDS: [&str; 17] = [
+    "n", "o", "s", "c", "w ok", "w late", "m", "x 1", "x 2", "x 3", "x 4", "x 5", "x 6", "x 8",
+    "x 11", "x 13", "x 14",
 ];
 
 impl Sums {
@@ -33,11 +34,7 @@ impl Sums {
         self.bytes += input.len() as u64;
         for line in output.split_inclusive(|&byte| byte == b'\n') {
             self.lines += 1;
-            let text = String::from_utf8_lossy(line);
-            let kind = match text.trim_end() {
-                refused if refused.starts_with('x') => refused.to_string(),
-                accepted => accepted.chars().take(1).collect(),
-            };
+            let kind = kind(&String::from_utf8_lossy(line));
             *self.kinds.entry(kind).or_insert(0) += 1;
         }
     }
@@ -47,6 +44,16 @@ impl Sums {
         missed
             .filter(|&kind| !self.kinds.contains_key(kind))
             .collect()
+    }
+}
+
+fn kind(line: &str) -> String {
+    let words: Vec<&str> = line.split_whitespace().collect();
+    match words.as_slice() {
+        ["x", number] => format!("x {number}"),
+        ["w", _, end] => format!("w {end}"),
+        [command, ..] => command.to_string(),
+        [] => String::new(),
     }
 }
 

@@ -1,15 +1,16 @@
 //! Two threads on two cores, each driving half of the processes on one shared
-//! table under a lock for each call. The recorded history is then checked
-//! against model and book, and every collected message against what was sent.
+//! table under a lock for each call; one of them withdraws in a race with the
+//! other's commits. The recorded history is then checked against model and book,
+//! every collected message against what was sent, and every offer for its end.
 
 use crate::draw;
 use crate::follow::{told, Follow};
-use crate::ledger::{self, History};
+use crate::ledger::{self, Ends, History};
 use crate::library::{fresh, Library};
 use crate::part::{Budget, Finding, Verdict};
 use crate::random::Random;
 use crate::wire::Table;
-use model::{Action, Call, Given, Guard, Message};
+use model::{Action, Call, Given, Guard, Message, Withdrawal};
 use std::sync::atomic::{AtomicBool, Ordering};
 use std::sync::{Mutex, MutexGuard, TryLockError};
 use std::thread;
@@ -17,6 +18,9 @@ use std::time::{Duration, Instant};
 
 /// How long the threads run before a history is checked.
 const ROUND: Duration = Duration::from_millis(400);
+
+/// The thread that withdraws.
+const WITHDRAWING: usize = 1;
 
 struct Shared {
     table: Table,
@@ -72,26 +76,64 @@ impl Shared {
     }
 }
 
+#[derive(Default)]
+struct Sums {
+    calls: usize,
+    switches: u64,
+    messages: usize,
+    withdrawn: usize,
+    late: usize,
+    open: usize,
+}
+
 pub fn run(library: &dyn Library, budget: Budget) -> Verdict {
-    let (mut calls, mut switches, mut messages) = (0, 0, 0);
+    let mut sums = Sums::default();
     for seed in budget.seeds() {
         let n = [2, 3, 4, 8, 32][(seed % 5) as usize];
         let found = |text| Finding::new(seed, text);
         let mut shared = round(library, n, seed).map_err(found)?;
         finish(library, n, &mut shared).map_err(found)?;
-        messages += check(library, n, &shared).map_err(found)?;
-        calls += shared.history.len();
-        switches += shared.switches;
+        let ends = check(library, n, &shared).map_err(found)?;
+        sums.note(&shared, &ends);
     }
-    match switches {
-        0 => Err(Finding::new(
-            budget.seed,
-            "the two threads never took turns",
-        )),
-        _ => Ok(format!(
-            "stress: {calls} calls of two threads, {switches} turns between them, \
-             {messages} messages, none lost and none twice"
-        )),
+    match sums.missed() {
+        Some(text) => Err(Finding::new(budget.seed, text)),
+        None => Ok(sums.told()),
+    }
+}
+
+impl Sums {
+    fn note(&mut self, shared: &Shared, ends: &Ends) {
+        self.calls += shared.history.len();
+        self.switches += shared.switches;
+        self.messages += ends.messages;
+        self.withdrawn += ends.withdrawn;
+        self.late += ends.late;
+        self.open += ends.open.len();
+    }
+
+    /// What has to happen in a race, and did not.
+    fn missed(&self) -> Option<&'static str> {
+        match self {
+            Sums { switches: 0, .. } => Some("the two threads never took turns"),
+            Sums { withdrawn: 0, .. } => Some("no offer was withdrawn"),
+            Sums { late: 0, .. } => Some("no withdrawal came too late"),
+            _ => None,
+        }
+    }
+
+    fn told(&self) -> String {
+        format!(
+            "stress: {} calls of two threads, {} turns between them, {} messages, none lost and none twice; \
+             of {} offers each one met, was withdrawn ({}) or stayed open ({}), {} withdrawals too late",
+            self.calls,
+            self.switches,
+            self.messages,
+            2 * self.messages + self.withdrawn + self.open,
+            self.withdrawn,
+            self.open,
+            self.late
+        )
     }
 }
 
@@ -147,7 +189,9 @@ impl Half {
             match answer {
                 Ok(Given::Ticket(_)) => self.letters[party] = 'E',
                 Ok(Given::Place(Some(place))) => self.letters[party] = place.letter,
-                Ok(Given::Outcome(_)) => self.letters[party] = 'I',
+                Ok(Given::Outcome(_) | Given::Withdrawal(Withdrawal::Withdrawn)) => {
+                    self.letters[party] = 'I'
+                }
                 _ => {}
             }
             if self.random.one_in(2) {
@@ -162,6 +206,7 @@ impl Half {
         let call = match (self.letters[party], self.random.below(10)) {
             ('I', 0..=8) | (_, 0) => self.offer(party),
             ('M', 1..=7) | (_, 1) => Call::Collect { party },
+            ('W', 2..=4) | (_, 2) if self.thread == WITHDRAWING => Call::Withdraw { party },
             _ => Call::Step { party },
         };
         (party, call)
@@ -212,8 +257,9 @@ fn finish(library: &dyn Library, n: usize, shared: &mut Shared) -> Result<(), St
     Err("the table does not come to rest".to_string())
 }
 
-/// Goes through the history again beside model and book, then by messages.
-fn check(library: &dyn Library, n: usize, shared: &Shared) -> Result<usize, String> {
+/// Goes through the history again beside model and book, then by its answers
+/// alone. What the answers leave open is what the book has open.
+fn check(library: &dyn Library, n: usize, shared: &Shared) -> Result<Ends, String> {
     let mut follow = Follow::new(library, n)?;
     for (at, (call, answer)) in shared.history.iter().enumerate() {
         let again = follow.call(library, call);
@@ -226,9 +272,15 @@ fn check(library: &dyn Library, n: usize, shared: &Shared) -> Result<usize, Stri
             return Err(told(library, n, &calls, &text));
         }
     }
-    match follow.table == shared.table {
-        true => ledger::check(&shared.history),
-        false => Err("the shared table is not the one that its history makes".to_string()),
+    if follow.table != shared.table {
+        return Err("the shared table is not the one that its history makes".to_string());
+    }
+    follow.run_is_whole()?;
+    let ends = ledger::check(&shared.history)?;
+    let open = follow.book.open_offers();
+    match ends.open.iter().eq(open.iter().map(|offer| &offer.party)) {
+        true => Ok(ends),
+        false => Err("an offer ended that is open, or the reverse".to_string()),
     }
 }
 
@@ -241,7 +293,7 @@ mod tests {
     fn the_model_stands_the_stress() {
         let budget = Budget {
             seed: 1,
-            time: Duration::from_secs(1),
+            time: Duration::from_secs(3),
         };
         let summary = run(&Modelled, budget).map_err(|finding| finding.text);
         assert!(summary.is_ok_and(|line| !line.contains(" 0 messages")));

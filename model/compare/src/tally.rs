@@ -1,11 +1,24 @@
-//! How often each refusal, each rule and each odd case was hit.
+//! How often each refusal, each rule, each withdrawal and each odd case was hit.
 
 use crate::damage::{Point, POINTS};
 use crate::library::Reply;
-use model::{Answer, Call, Desk, Given, Guard, Party, Place};
+use model::{Answer, Call, Desk, Given, Guard, Party, Place, Withdrawal};
 use std::collections::BTreeMap;
 
-const REFUSALS: [u8; 10] = [1, 2, 3, 4, 5, 6, 7, 11, 12, 13];
+const REFUSALS: [u8; 11] = [1, 2, 3, 4, 5, 6, 7, 11, 12, 13, 14];
+
+const WITHDRAWN: &str = "withdrawn";
+const TOO_LATE: &str = "too late";
+const TURNED_AWAY: &str = "refusal 14";
+
+/// Letters of places, and what a withdrawal says there with wake count 0 and
+/// with 1. Runs have wake count 0 at H and W alone.
+const WITHDRAWALS: [(&str, [&str; 2]); 4] = [
+    ("EATPOS", [WITHDRAWN, WITHDRAWN]),
+    ("HW", [WITHDRAWN, TOO_LATE]),
+    ("C", [TOO_LATE, TOO_LATE]),
+    ("IM", [TURNED_AWAY, TURNED_AWAY]),
+];
 
 // Odd cases that only damaged tables have.
 const EQUAL_TICKETS: &str = "rule 6 with equal tickets";
@@ -15,8 +28,9 @@ const TWO_SENDING: &str = "rule 9 with two sending guards";
 const OLD_SIGNAL: &str = "rule 9 over an old signal";
 const NAN_HANDED_OVER: &str = "rule 9 hands over a NaN";
 const STILL_ACCEPTING: &str = "rule 13 with wake count 0";
+const SIGNAL_STAYS: &str = "withdrawn under an old signal";
 
-const ODD: [&str; 7] = [
+const ODD: [&str; 8] = [
     EQUAL_TICKETS,
     DISABLED_OWN,
     TWO_RECEIVING,
@@ -24,6 +38,7 @@ const ODD: [&str; 7] = [
     OLD_SIGNAL,
     NAN_HANDED_OVER,
     STILL_ACCEPTING,
+    SIGNAL_STAYS,
 ];
 
 pub struct Tally {
@@ -39,6 +54,7 @@ impl Tally {
         let odd = ODD.iter().map(|name| name.to_string());
         let points = POINTS.iter().map(point_name);
         let names = refusals.chain(rules).chain(odd).chain(points);
+        let names = names.chain(withdrawals());
         Tally {
             calls: 0,
             counts: names.map(|name| (name, 0)).collect(),
@@ -60,8 +76,10 @@ impl Tally {
     /// Notes a call on the desk as it was before.
     pub fn note(&mut self, before: &Desk, call: &Call, reply: &Reply) {
         self.calls += 1;
+        if let Err(number) = reply.answer {
+            self.refused(number);
+        }
         match (&reply.answer, call) {
-            (Err(number), _) => self.refused(*number),
             (Ok(Given::Place(answer)), Call::Step { party }) => {
                 let rule = rule_of(before.parties[*party].place, *answer);
                 self.hit(rule_name(rule));
@@ -69,7 +87,20 @@ impl Tally {
                     self.hit(name.to_string());
                 }
             }
+            (answer, Call::Withdraw { party }) => {
+                if let Some(said) = said_by_withdrawal(answer) {
+                    self.withdrawal(&before.parties[*party], said);
+                }
+            }
             _ => {}
+        }
+    }
+
+    fn withdrawal(&mut self, record: &Party, said: &str) {
+        let letter = record.place.answer().letter;
+        self.hit(withdrawal_name(letter, record.wake_count, said));
+        if said == WITHDRAWN && record.signal.is_some() {
+            self.hit(SIGNAL_STAYS.to_string());
         }
     }
 
@@ -97,6 +128,34 @@ fn rule_name(rule: u8) -> String {
 
 fn point_name(point: &Point) -> String {
     format!("7 by {point:?} alone")
+}
+
+fn withdrawal_name(letter: char, wake_count: u8, said: &str) -> String {
+    format!("withdrawal at {letter} with wake count {wake_count}: {said}")
+}
+
+/// The withdrawals that have to be hit.
+fn withdrawals() -> impl Iterator<Item = String> {
+    WITHDRAWALS
+        .into_iter()
+        .flat_map(|(letters, [with_0, with_1])| {
+            letters.chars().flat_map(move |letter| {
+                [
+                    withdrawal_name(letter, 0, with_0),
+                    withdrawal_name(letter, 1, with_1),
+                ]
+            })
+        })
+}
+
+/// What a withdrawal says by place and wake count; none if 7 or 2 came first.
+fn said_by_withdrawal(answer: &Result<Given, u8>) -> Option<&'static str> {
+    match answer {
+        Ok(Given::Withdrawal(Withdrawal::Withdrawn)) => Some(WITHDRAWN),
+        Ok(Given::Withdrawal(Withdrawal::TooLate)) => Some(TOO_LATE),
+        Err(14) => Some(TURNED_AWAY),
+        _ => None,
+    }
 }
 
 /// The rule by which a party at this place gives this answer.
@@ -147,5 +206,17 @@ fn odd_delivery(own: &Guard, partner: &Party, kept: usize) -> Option<&'static st
         (true, true) => Some(TWO_SENDING),
         _ if partner.signal.is_some() => Some(OLD_SIGNAL),
         _ => None,
+    }
+}
+
+#[cfg(test)]
+mod tests {
+    use super::*;
+    use std::collections::BTreeSet;
+
+    #[test]
+    fn withdrawals_have_to_be_hit_at_eleven_places_with_both_wake_counts() {
+        let names: BTreeSet<String> = withdrawals().collect();
+        assert_eq!(names.len(), 22);
     }
 }

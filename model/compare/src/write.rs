@@ -48,6 +48,9 @@ const WHOLES: [&str; 16] = [
     "+1",
 ];
 
+/// Lines that are nearly commands; `w` begins a message as well.
+const NO_COMMANDS: [&str; 8] = ["", "w", "w0", "w-1", "w 0 1", "w 0 1?", "W 0", "w w0"];
+
 /// One script, lines with their ends.
 pub fn script(random: &mut Random) -> Vec<u8> {
     match random.below(4) {
@@ -91,6 +94,7 @@ fn next_call(random: &mut Random, desk: &Desk, party: usize, sociable: bool) -> 
         }
         Place::Idle => draw::offer(random, party, desk.n),
         Place::Met(_) => Call::Collect { party },
+        _ if random.one_in(25) => Call::Withdraw { party },
         _ if desk.at_rest() => draw::call(random, desk.n),
         _ => Call::Step { party },
     }
@@ -107,13 +111,14 @@ fn odd_lines(random: &mut Random) -> Vec<u8> {
 /// A line of well-formed parts that need not fit together.
 fn odd_line(random: &mut Random) -> Vec<u8> {
     let number = random.pick(&NUMBERS);
-    let mut line = match random.below(8) {
+    let mut line = match random.below(9) {
         0 => format!("n {number}"),
         1 => format!("s {number}"),
         2 => format!("c {number}"),
-        3 => "m".to_string(),
-        4 => String::new(),
-        5 => return long_line(random),
+        3 => format!("w {number}"),
+        4 => "m".to_string(),
+        5 => random.pick(&NO_COMMANDS).to_string(),
+        6 => return long_line(random),
         _ => {
             let guards: String = (0..random.below(11)).map(|_| odd_guard(random)).collect();
             format!("o {number}{guards}")
@@ -167,9 +172,10 @@ fn long_line(random: &mut Random) -> Vec<u8> {
         1 => random.pick(&[255, 256, 257, 400, 4095, 4096, 4097, 65_536]),
         _ => 198 + random.below(5),
     };
-    let mut line = match random.below(3) {
+    let mut line = match random.below(4) {
         0 => b"o 0 1!w-2147483648 1!l000000007f800000".to_vec(),
         1 => b"m".to_vec(),
+        2 => b"w 0".to_vec(),
         _ => b"s 0".to_vec(),
     };
     let filler: &[u8] = random.pick(&[b" 1?" as &[u8], b" ", b"0", b"x", b"\0", b" -1!0"]);
@@ -184,6 +190,7 @@ fn long_line(random: &mut Random) -> Vec<u8> {
 #[cfg(test)]
 mod tests {
     use super::*;
+    use std::collections::BTreeSet;
 
     #[test]
     fn long_lines_lie_on_both_sides_of_the_bound() {
@@ -204,5 +211,26 @@ mod tests {
                 .any(|line| line.starts_with(b"c "))
         });
         assert!(collected);
+    }
+
+    #[test]
+    fn sessions_bring_every_answer_to_a_withdrawal() {
+        let mut random = Random::new(5);
+        let mut last_words = BTreeSet::new();
+        for _ in 0..400 {
+            let script = session(&mut random);
+            let output = model::script::run(&script);
+            let lines = script.split(|&byte| byte == b'\n');
+            let answers = output.split(|&byte| byte == b'\n');
+            let withdrawals = lines
+                .zip(answers)
+                .filter(|(line, _)| line.starts_with(b"w "));
+            let words =
+                withdrawals.flat_map(|(_, answer)| answer.rsplit(|&byte| byte == b' ').next());
+            last_words.extend(words.map(<[u8]>::to_vec));
+        }
+        for wanted in [&b"ok"[..], b"late", b"14", b"2"] {
+            assert!(last_words.contains(wanted), "{}", wanted.escape_ascii());
+        }
     }
 }
