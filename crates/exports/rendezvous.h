@@ -3,8 +3,8 @@
    crates/exports/specs. The four at the end, which only lay bytes out, are C.
 
    docs/BYTES.md has the bytes of a table, a guard, an answer and a session. Any bytes, RENDEZVOUS_TABLE_BYTES of them, are a table. A
-   refused call writes the table that it read: the same bytes, but for such as no call writes (a NaN's payload, a tag past the last,
-   a flag other than 0 and 1, anything but 0 in unused bytes), which are replaced.
+   call that changes nothing, a refused one among them, writes the table that it read: the same bytes, but for such as no call writes
+   (a NaN's payload, a tag past the last, a flag other than 0 and 1, anything but 0 in unused bytes), which are replaced.
 
    `out` takes the table that a call hands back and `answer` the answer, each at its front. If one of `table`, `out` and `answer` is
    too short, the call does nothing: no buffer changes, and it returns false.
