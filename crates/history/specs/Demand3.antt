@@ -77,7 +77,7 @@ pub record Claim (m : Machine) (s : m .State) (b : History) (calls : List Call) 
   pub rests : m .Rests (afterAll (m .after) s calls) → (p q : ℕ) (o r : Transaction) → (p ≡ q → ⊥)
       → m .opened (afterAll (m .after) s calls) p ≡ some o → m .opened (afterAll (m .after) s calls) q ≡ some r → offersMatch p (o .guards) q (r .guards) ≡ false
 
--- "Withdrawals join demand 3's list". "For every list of offers, steps and collections, in any order and with refused ones among them, from any fresh desk, where each call gets the desk that the last one
--- handed back, the following holds after the list."
+-- "For every list of offers, steps and collections, in any order and with refused ones among them, from any fresh desk, where each call gets the desk that the last one
+-- handed back, the following holds after the list." And CR 1: "Withdrawals join demand 3's list".
 abbrev pub Demand3 : Type 0
 Demand3 = (n : ℕ) → 2 ≤ n → n ≤ mostProcesses → (calls : List Call) → Claim tables (freshTable n) emptyHistory calls
