@@ -129,49 +129,19 @@ pub fn offer(table: &[u8], p: u8, guards: &[u8], out: &mut [u8], answer: &mut [u
 /// A step of process `p`.
 #[must_use]
 pub fn step(table: &[u8], p: u8, out: &mut [u8], answer: &mut [u8]) -> bool {
-    unsafe {
-        rendezvous_step(
-            table.as_ptr(),
-            table.len(),
-            p,
-            out.as_mut_ptr(),
-            out.len(),
-            answer.as_mut_ptr(),
-            answer.len(),
-        )
-    }
+    by_process(rendezvous_step, table, p, out, answer)
 }
 
 /// A collection from process `p`.
 #[must_use]
 pub fn collect(table: &[u8], p: u8, out: &mut [u8], answer: &mut [u8]) -> bool {
-    unsafe {
-        rendezvous_collect(
-            table.as_ptr(),
-            table.len(),
-            p,
-            out.as_mut_ptr(),
-            out.len(),
-            answer.as_mut_ptr(),
-            answer.len(),
-        )
-    }
+    by_process(rendezvous_collect, table, p, out, answer)
 }
 
 /// A withdrawal of process `p`'s offer: withdrawn, or too late, since a commit came first.
 #[must_use]
 pub fn withdraw(table: &[u8], p: u8, out: &mut [u8], answer: &mut [u8]) -> bool {
-    unsafe {
-        rendezvous_withdraw(
-            table.as_ptr(),
-            table.len(),
-            p,
-            out.as_mut_ptr(),
-            out.len(),
-            answer.as_mut_ptr(),
-            answer.len(),
-        )
-    }
+    by_process(rendezvous_withdraw, table, p, out, answer)
 }
 
 /// The set of processes that a step would change.
@@ -273,6 +243,23 @@ pub fn low_through(low: f32, high: f32) -> f32 {
 /// The same by way of a limit: high.
 pub fn high_through(low: f32, high: f32) -> f32 {
     unsafe { rendezvous_high_through(low, high) }
+}
+
+/// A call that takes a table and the number of a process.
+type ByProcess = unsafe extern "C" fn(*const u8, usize, u8, *mut u8, usize, *mut u8, usize) -> bool;
+
+fn by_process(call: ByProcess, table: &[u8], p: u8, out: &mut [u8], answer: &mut [u8]) -> bool {
+    unsafe {
+        call(
+            table.as_ptr(),
+            table.len(),
+            p,
+            out.as_mut_ptr(),
+            out.len(),
+            answer.as_mut_ptr(),
+            answer.len(),
+        )
+    }
 }
 
 unsafe extern "C" {

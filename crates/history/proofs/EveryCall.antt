@@ -18,7 +18,7 @@ use Rattle.process.specs.Process.{ownList, isOpen}
 use Rattle.rendezvous.specs.Table.{process, put}
 use Rattle.process.specs.Rules.{atPlace}
 use Rattle.rendezvous.specs.Numbers.{ticket}
-use Rattle.rendezvous.specs.Calls.{entering, offered, collected, givenUp}
+use Rattle.rendezvous.specs.Calls.{entering, offered, collected, givenUp, withdrawnOrLate}
 use Rattle.rendezvous.proofs.Verdicts.{Admitted}
 use Rattle.rendezvous.specs.Run.{Call, Offer, Step, Collect, Withdraw, replyTo}
 use Rattle.history.specs.Book.{Rendezvous, Withdrawal, Joined, Withdrew, History, enteredFor, enter}
@@ -112,7 +112,7 @@ module _ {t : ProcessTable} (good : Good t) {b : History} (k : InStep t b) (p : 
       others r rp = agrees-other (listsOf (process t)) (listsOf (process t)) b after r (process t r) refl (rw (ne-eqb r p rp))
           (λ a j c. (refl, rw (ne-eqb _ p (unbound (process t) (good .inv) p _ e (λ s. s) r a j c)))) (k .each r)
 
-  withdraw-followed : p < t .head .n → isOpen (process t p) ≡ true → Followed t b (Withdraw p) (record { answer = Answer.Withdrawn; table = put t p (givenUp (process t p)) })
+  withdraw-followed : p < t .head .n → isOpen (process t p) ≡ true → Followed t b (Withdraw p) (withdrawnOrLate t p (process t p) false)
   unfolding enter
   withdraw-followed below o = record {
     after = after;

@@ -22,7 +22,7 @@ use Rattle.process.specs.Process.{letterOf, isAt, indexOf, ownList, ownGuard, o
 use Rattle.rendezvous.specs.Table.{process, put, hasOpenOffer}
 use Rattle.process.proofs.PlaceCases.{if-committed}
 use Rattle.process.specs.Rules.{Own, atPlace, scanAt, scanFrom, scan, handOver, absorb}
-use Rattle.rendezvous.specs.Calls.{refused, applied}
+use Rattle.rendezvous.specs.Calls.{refused, applied, withdrawnOrLate}
 use Rattle.rendezvous.specs.Numbers.{Said, refusalNumber, said}
 use Rattle.rendezvous.specs.Run.{Call, Offer, Step, Collect, Withdraw}
 use Rattle.history.specs.Book.{Rendezvous, Moment, Joined, History, seen, stepping, enter}
@@ -72,7 +72,7 @@ turned-away t b (Step p) k r = enters-nothing _ _ _ refl (stays-made t p (proces
 turned-away t b (Collect p) k r = enters-nothing _ _ _ refl refl tt (inl (refusalNumber r, refl)) k
 turned-away t b (Withdraw p) k r = enters-nothing _ _ _ refl (kept-made (hasOpenOffer t p) _) tt tt k
 
-pub too-late : (t : ProcessTable) (b : History) (p : ℕ) → InStep t b → Followed t b (Withdraw p) (record { answer = Answer.TooLate; table = t })
+pub too-late : (t : ProcessTable) (b : History) (p : ℕ) → InStep t b → Followed t b (Withdraw p) (withdrawnOrLate t p (process t p) true)
 unfolding enter
 too-late t b p k = enters-nothing _ _ _ refl (kept-made (hasOpenOffer t p) _) tt tt k
 

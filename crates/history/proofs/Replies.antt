@@ -1,7 +1,7 @@
 -- What each call replies: it is refused and hands back its table, or it does what follows.
 use Prim.Native.Nat.{ℕ, _<_}
 use mathlib.Core.Path.{_≡_, refl, subst⁻¹}
-use mathlib.Core.Bool.{Bool, true, false, not, cond}
+use mathlib.Core.Bool.{Bool, true, false, not}
 use mathlib.Core.List.{List}
 use Rattle.alternative.specs.declared.Message.{Message}
 use Rattle.alternative.specs.declared.Guard.{Guard}
@@ -10,12 +10,11 @@ use Rattle.process.specs.declared.Place.{Place}
 use Rattle.rendezvous.specs.declared.ProcessTable.{ProcessTable}
 use Rattle.rendezvous.specs.declared.Refusal.{Refusal}
 use Rattle.rendezvous.specs.declared.Verdict.{Verdict}
-use Rattle.rendezvous.specs.declared.Answer.{Answer}
 use Rattle.rendezvous.specs.declared.Reply.{Reply}
 use Rattle.process.specs.Process.{isOpen}
-use Rattle.rendezvous.specs.Table.{process, put}
+use Rattle.rendezvous.specs.Table.{process}
 use Rattle.rendezvous.specs.Refusals.{processVerdict, offerVerdict, withdrawVerdict}
-use Rattle.rendezvous.specs.Calls.{refused, ifAccepted, offered, offerList, offer, stepped, step, collected, collect, givenUp, withdraw}
+use Rattle.rendezvous.specs.Calls.{refused, ifAccepted, offered, offerList, offer, stepped, step, collected, collect, withdrawnOrLate, withdraw}
 use Rattle.process.proofs.PlaceCases.{if-met}
 use Rattle.rendezvous.proofs.Verdicts.{process-passed, Admitted, offer-passed, withdraw-passed, first-closed}
 
@@ -37,16 +36,13 @@ module _ (P : Reply → Type 0) (t : ProcessTable) (turned-away : (r : Refusal) 
   collect-elim h = verdict-elim (processVerdict t p) _ (λ e. if-met P _ _ (process t p .place) (h (process-passed t p e .below)) (turned-away Refusal.NotMet))
 
   -- too late, or an open offer is taken back
-  pub withdraw-elim : P (record { answer = Answer.TooLate; table = t })
-      → (p < t .head .n → isOpen (process t p) ≡ true → P (record { answer = Answer.Withdrawn; table = put t p (givenUp (process t p)) })) → P (withdraw t p)
+  pub withdraw-elim : P (withdrawnOrLate t p (process t p) true)
+      → (p < t .head .n → isOpen (process t p) ≡ true → P (withdrawnOrLate t p (process t p) false)) → P (withdraw t p)
   unfolding withdraw
   withdraw-elim late h = verdict-elim (withdrawVerdict t p) _ (λ e.
       let a = withdraw-passed t p e in
-      subst⁻¹ (λ (first : Bool). P (reply first)) (first-closed (process t p .place) (process t p .accepting) (a .elsewhere)) (go (a .below) (isOpen (process t p)) refl))
+      subst⁻¹ (λ (first : Bool). P (withdrawnOrLate t p (process t p) first)) (first-closed (process t p .place) (process t p .accepting) (a .elsewhere)) (go (a .below) (isOpen (process t p)) refl))
     where
-      reply : Bool → Reply
-      reply first = cond first (record { answer = Answer.TooLate; table = t }) (record { answer = Answer.Withdrawn; table = put t p (givenUp (process t p)) })
-
-      go : p < t .head .n → (o : Bool) → isOpen (process t p) ≡ o → P (reply (not o))
+      go : p < t .head .n → (o : Bool) → isOpen (process t p) ≡ o → P (withdrawnOrLate t p (process t p) (not o))
       go below true e = h below e
       go below false e = late

@@ -2,17 +2,17 @@
 -- have one, and when nothing can move, all that is due can be collected. (The clause on collections of demand 3 speaks of accepted ones alone.)
 use Rattle.process.specs.Process.{isAt, ownGuard}
 use Rattle.rendezvous.specs.Table.{mostProcesses, process, freshTable}
-use Rattle.rendezvous.specs.Calls.{Quiescent}
+use Rattle.rendezvous.specs.Calls.{commitCameFirst, Quiescent}
 use Rattle.rendezvous.specs.Numbers.{outcome}
 use Rattle.rendezvous.specs.Run.{Call, Collect, saidTo, tableAfterAll}
-use Rattle.history.specs.Types.{ℕ, _≤_, _≡_, Bool, true, false, not, _&&_, _||_, List, Option, some, none, Message, Place, ProcessTable}
+use Rattle.history.specs.Types.{ℕ, _≤_, _≡_, Bool, true, false, _||_, List, Option, some, none, Message, Place, ProcessTable}
 use Rattle.history.specs.Book.{Due, History, emptyHistory}
 use Rattle.history.specs.Machine.{bookAfterAll}
 use Rattle.history.specs.Tables.{tables}
 
 -- a process has an outcome due from the commit that it made or that names it until its collection: it is at C, at H or W with wake count 1, or at M
 abbrev pub isOwed : Place → Bool → Bool
-isOwed place accepting = isAt "CM" place || (isAt "HW" place && not accepting)
+isOwed place accepting = isAt "M" place || commitCameFirst place accepting
 
 -- the book has "a due outcome .. or none"
 abbrev pub isDue : Option Due → Bool

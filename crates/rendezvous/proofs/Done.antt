@@ -1,7 +1,7 @@
 -- Laws of acts: carried out on the table that was read, an act is the call.
 use Prim.Native.Nat.{ℕ, _+_, _%_}
 use mathlib.Core.Path.{_≡_, refl, sym, ap, _∙_}
-use mathlib.Core.Bool.{Bool, true, false, not, cond}
+use mathlib.Core.Bool.{Bool, true, false, not}
 use mathlib.Core.List.{List}
 use lib.ListN.{set}
 use lib.Seq.{set-getD}
@@ -20,7 +20,7 @@ use Rattle.rendezvous.specs.WellFormed.{wellFormed}
 use Rattle.rendezvous.specs.Refusals.{require, processTests, processVerdict, listVerdict, stateVerdict, offerTests, offerVerdict, withdrawTests}
 use Rattle.rendezvous.specs.Refusals.{withdrawVerdict}
 use Rattle.rendezvous.specs.Calls.{ifAccepted, entering, offered, offerList, effectOn, applied, stepped, step, collected, collect, commitCameFirst}
-use Rattle.rendezvous.specs.Calls.{givenUp, withdraw}
+use Rattle.rendezvous.specs.Calls.{withdrawnOrLate, withdraw}
 use Rattle.rendezvous.specs.Acts.{alone, unlessRefused, offerAct, movedAct, stepAct, collectedAct, collectAct, withdrawnOrLateAct, withdrawAct, done}
 use Rattle.rendezvous.specs.Acts.{ActsAreCalls}
 use Rattle.rendezvous.proofs.Steps.{inside}
@@ -51,8 +51,7 @@ module _ (t : ProcessTable) (p : ℕ) where
       let refused = nothing-done t p q (Answer.Refused Refusal.NotMet) in
       both-carried (λ s r. done t p q (collectedAct (t .head) (process t p) s) ≡ r) _ _ _ _ _ _ _ _ place refused (λ i e. refused) (λ i j e. refused) (λ i m e. refl)
 
-  withdrawn-done : (q : ℕ) (first : Bool) → let x = process t p in done t p q (cond first (alone Answer.TooLate (t .head) x) (alone Answer.Withdrawn (t .head) (givenUp x)))
-      ≡ cond first (record { answer = Answer.TooLate; table = t }) (record { answer = Answer.Withdrawn; table = put t p (givenUp x) })
+  withdrawn-done : (q : ℕ) (first : Bool) → let x = process t p in done t p q (withdrawnOrLateAct (t .head) x first) ≡ withdrawnOrLate t p x first
   unfolding done
   withdrawn-done q true = nothing-done t p q Answer.TooLate
   withdrawn-done q false = refl
@@ -101,7 +100,7 @@ collected-untold : (h : Head) (x : Process) (outcome : Signal) → collectedAct 
 collected-untold h x (Signal.Present i m) = refl
 collected-untold h x Signal.Absent = refl
 
-withdrawn-untold : (h : Head) (x : Process) (first : Bool) → cond first (alone Answer.TooLate h x) (alone Answer.Withdrawn h (givenUp x)) .told ≡ false
+withdrawn-untold : (h : Head) (x : Process) (first : Bool) → withdrawnOrLateAct h x first .told ≡ false
 withdrawn-untold h x true = refl
 withdrawn-untold h x false = refl
 
@@ -146,7 +145,7 @@ module _ (t : ProcessTable) (p : ℕ) (formed : Bool) (form : formed ≡ wellFor
   unfolding withdrawAct
   withdraw-done j e =
       rw (e, form)
-      (at-places t p j (p % mostProcesses) j (λ x. require (not (isAt "IM" (x .place))) Refusal.NothingToWithdraw Verdict.Accepted) (λ x y. withdrawnOrLateAct (t .head) x) (λ a. (inside t p a .own, refl))
+      (at-places t p j (p % mostProcesses) j (λ x. require (not (isAt "IM" (x .place))) Refusal.NothingToWithdraw Verdict.Accepted) (λ x y. withdrawnOrLateAct (t .head) x (commitCameFirst (x .place) (x .accepting))) (λ a. (inside t p a .own, refl))
       ∙ acts-are-calls .withdraws t p j)
 
   pub withdraw-written : act ≡ withdrawAct formed (t .head) p x → written ≡ withdraw t p

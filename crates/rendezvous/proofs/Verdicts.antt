@@ -95,7 +95,6 @@ offer-passed t p list e = tests-passed (wellFormed t) (t .head) p list (process 
 
 -- what a withdrawal has passed: the process is neither at I nor at M
 pub record Busy (t : ProcessTable) (p : ℕ) : Type 0 where
-  pub formed : wellFormed t ≡ true
   pub below : p < t .head .n
   pub elsewhere : not (isAt "IM" (process t p .place)) ≡ true
 
@@ -105,7 +104,7 @@ withdraw-passed t p e =
     let a = passed (wellFormed t) Refusal.NotWellFormed _ e in
     let b = passed (ltb p (t .head .n)) Refusal.NoSuchProcess _ (a .1) in
     let c = passed (not (isAt "IM" (process t p .place))) Refusal.NothingToWithdraw _ (b .1) in
-    record { formed = a .0; below = ltb-true p (t .head .n) (b .0); elsewhere = c .0 }
+    record { below = ltb-true p (t .head .n) (b .0); elsewhere = c .0 }
 
 -- there a commit came first exactly where the offer is no longer open
 pub first-closed : (place : Place) (accepting : Bool) → not (isAt "IM" place) ≡ true → commitCameFirst place accepting ≡ not (openAt place accepting)

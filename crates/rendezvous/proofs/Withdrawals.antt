@@ -8,22 +8,18 @@ use lib.Seq.{getD-set-same}
 use lib.Dec.{ltb}
 use borrow.Author.Tests.{lt-ltb, ltb-true, ltb-false}
 use Rattle.process.specs.Process.{nobody, isOpen}
-use Rattle.rendezvous.specs.Types.{Process, ProcessTable, Verdict, Answer, Reply}
+use Rattle.rendezvous.specs.Types.{Process, ProcessTable, Verdict, Answer}
 use Rattle.rendezvous.specs.Table.{process, put, hasOpenOffer}
 use Rattle.rendezvous.specs.Refusals.{withdrawVerdict}
-use Rattle.rendezvous.specs.Calls.{ifAccepted, commitCameFirst, givenUp, withdraw}
+use Rattle.rendezvous.specs.Calls.{ifAccepted, commitCameFirst, givenUp, withdrawnOrLate, withdraw}
 use Rattle.rendezvous.specs.Withdrawals.{WithdrawsOpen}
 use Rattle.rendezvous.proofs.Verdicts.{withdraw-passed, first-closed}
-
--- the two replies of a withdrawal that is not turned away
-abbrev replies : ProcessTable → ℕ → Bool → Reply
-replies t p first = cond first (record { answer = Answer.TooLate; table = t }) (record { answer = Answer.Withdrawn; table = put t p (givenUp (process t p)) })
 
 answers : (t : ProcessTable) (p : ℕ) → withdrawVerdict t p ≡ Verdict.Accepted → withdraw t p .answer ≡ cond (hasOpenOffer t p) Answer.Withdrawn Answer.TooLate
 unfolding withdraw
 answers t p e = let a = withdraw-passed t p e in rw (e, lt-ltb p (t .head .n) (a .below), first-closed (process t p .place) (process t p .accepting) (a .elsewhere)) (go (isOpen (process t p)))
   where
-    go : (isIt : Bool) → replies t p (not isIt) .answer ≡ cond isIt Answer.Withdrawn Answer.TooLate
+    go : (isIt : Bool) → withdrawnOrLate t p (process t p) (not isIt) .answer ≡ cond isIt Answer.Withdrawn Answer.TooLate
     go true = refl
     go false = refl
 
@@ -43,7 +39,7 @@ closes : (t : ProcessTable) (p : ℕ) → withdraw t p .answer ≡ Answer.Withdr
 unfolding withdraw
 closes t p = go (withdrawVerdict t p) (commitCameFirst (process t p .place) (process t p .accepting))
   where
-    go : (v : Verdict) (first : Bool) → let r = ifAccepted v t (replies t p first) in r .answer ≡ Answer.Withdrawn → hasOpenOffer (r .table) p ≡ false
+    go : (v : Verdict) (first : Bool) → let r = ifAccepted v t (withdrawnOrLate t p (process t p) first) in r .answer ≡ Answer.Withdrawn → hasOpenOffer (r .table) p ≡ false
     go Verdict.Accepted true e = absurd (let z : _≡_ {A = ℕ} 0 1 = cc in omega arith)
     go Verdict.Accepted false e = given-up-closed t p (givenUp (process t p)) refl
     go (Verdict.Refused r) first e = absurd (let z : _≡_ {A = ℕ} 0 1 = cc in omega arith)

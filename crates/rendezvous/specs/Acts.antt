@@ -6,7 +6,7 @@ use Rattle.process.specs.Process.{ownGuard}
 use Rattle.process.specs.Rules.{changed, atPlace, rule, partnerOf}
 use Rattle.process.specs.InCode.{changeOf, outcomeOf}
 use Rattle.rendezvous.specs.declared.Act.{Act}
-use Rattle.rendezvous.specs.Types.{ℕ, _+_, _≡_, Bool, false, cond, set, GuardList, Place, Process, Head, ProcessTable, Refusal, Verdict, Answer, Reply}
+use Rattle.rendezvous.specs.Types.{ℕ, _+_, _≡_, Bool, true, false, cond, set, GuardList, Place, Process, Head, ProcessTable, Refusal, Verdict, Answer, Reply}
 use Rattle.rendezvous.specs.Table.{process, withNext}
 use Rattle.rendezvous.specs.WellFormed.{wellFormed}
 use Rattle.rendezvous.specs.Refusals.{processTests, offerTests, withdrawTests}
@@ -44,11 +44,12 @@ collectAct formed h p x = unlessRefused (processTests formed (h .n) p Verdict.Ac
 
 -- Withdraw. "At C, or at H or W with wake count 1, a commit came first: the answer is "too late" and nothing changes. Elsewhere the wake count becomes 1, the party goes to I, and the
 -- answer is "withdrawn"."
-abbrev pub withdrawnOrLateAct : Head → Process → Act
-withdrawnOrLateAct h x = cond (commitCameFirst (x .place) (x .accepting)) (alone Answer.TooLate h x) (alone Answer.Withdrawn h (givenUp x))
+abbrev pub withdrawnOrLateAct : Head → Process → Bool → Act
+withdrawnOrLateAct h x true = alone Answer.TooLate h x
+withdrawnOrLateAct h x false = alone Answer.Withdrawn h (givenUp x)
 
 unfoldable pub withdrawAct : Bool → Head → ℕ → Process → Act
-withdrawAct formed h p x = unlessRefused (withdrawTests formed (h .n) p (x .place)) h x (withdrawnOrLateAct h x)
+withdrawAct formed h p x = unlessRefused (withdrawTests formed (h .n) p (x .place)) h x (withdrawnOrLateAct h x (commitCameFirst (x .place) (x .accepting)))
 
 -- How an act of p is carried out: the table with the act's head, with what the partner q is told, if anything, and with the own record.
 unfoldable pub done : ProcessTable → ℕ → ℕ → Act → Reply

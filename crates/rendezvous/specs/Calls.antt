@@ -2,7 +2,7 @@
 use Rattle.alternative.specs.Guards.{slots, lent}
 use Rattle.process.specs.Process.{isAt, ifMet, ownGuard}
 use Rattle.process.specs.Rules.{Effect, Neither, Own, Both, changed, atPlace, rule, partnerOf}
-use Rattle.rendezvous.specs.Types.{ℕ, _+_, _≡_, Bool, false, not, _&&_, _||_, cond, List, set, take, Guard, GuardList, TransactionId, Place, Process}
+use Rattle.rendezvous.specs.Types.{ℕ, _+_, _≡_, Bool, true, false, not, _&&_, _||_, List, set, take, Guard, GuardList, TransactionId, Place, Process}
 use Rattle.rendezvous.specs.Types.{ProcessTable, Refusal, Verdict, Answer}
 use Rattle.rendezvous.specs.Types.{Reply}
 use Rattle.rendezvous.specs.Table.{process, put, withNext, freshTable}
@@ -69,11 +69,12 @@ commitCameFirst place accepting = isAt "C" place || (isAt "HW" place && not acce
 abbrev pub givenUp : Process → Process
 givenUp x = changed x Place.Idle (x .signal) false
 
-abbrev pub withdrawnOrLate : ProcessTable → ℕ → Process → Reply
-withdrawnOrLate t p x = cond (commitCameFirst (x .place) (x .accepting)) (record { answer = Answer.TooLate; table = t }) (record { answer = Answer.Withdrawn; table = put t p (givenUp x) })
+abbrev pub withdrawnOrLate : ProcessTable → ℕ → Process → Bool → Reply
+withdrawnOrLate t p x true = record { answer = Answer.TooLate; table = t }
+withdrawnOrLate t p x false = record { answer = Answer.Withdrawn; table = put t p (givenUp x) }
 
 unfoldable pub withdraw : ProcessTable → ℕ → Reply
-withdraw t p = ifAccepted (withdrawVerdict t p) t (withdrawnOrLate t p (process t p))
+withdraw t p = let x = process t p in ifAccepted (withdrawVerdict t p) t (withdrawnOrLate t p x (commitCameFirst (x .place) (x .accepting)))
 
 -- "no task's step would change the desk"
 abbrev pub Quiescent : ProcessTable → Type 0

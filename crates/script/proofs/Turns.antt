@@ -16,11 +16,11 @@ use Rattle.process.specs.Rules.{Effect, Neither, Own, Both, partnerOf}
 use Rattle.process.proofs.PlaceCases.{if-met}
 use Rattle.rendezvous.specs.declared.Act.{Act}
 use Rattle.rendezvous.specs.declared.Verdict.{Verdict}
-use Rattle.rendezvous.specs.Table.{mostProcesses, process, put}
+use Rattle.rendezvous.specs.Table.{mostProcesses, process}
 use Rattle.rendezvous.specs.WellFormed.{wellFormed}
 use Rattle.rendezvous.specs.Refusals.{offerVerdict, processVerdict, tableVerdict, withdrawVerdict}
 use Rattle.rendezvous.specs.Numbers.{said}
-use Rattle.rendezvous.specs.Calls.{ifAccepted, create, offered, offerList, effectOn, applied, stepped, step, collect, commitCameFirst, givenUp, withdraw}
+use Rattle.rendezvous.specs.Calls.{ifAccepted, create, offered, offerList, effectOn, applied, stepped, step, collect, commitCameFirst, withdrawnOrLate, withdraw}
 use Rattle.rendezvous.specs.Movers.{runnable, runnableSet}
 use Rattle.rendezvous.specs.Run.{Call, replyTo}
 use Rattle.rendezvous.specs.Commands.{replyToCommand}
@@ -49,7 +49,7 @@ applied-goes t p q Neither = refl
 applied-goes t p q (Own x) = refl
 applied-goes t p q (Both x y) = refl
 
-withdrawn-goes : (t : ProcessTable) (p : ℕ) (first : Bool) → GoesOn t (cond first (record { answer = Answer.TooLate; table = t }) (record { answer = Answer.Withdrawn; table = put t p (givenUp (process t p)) }))
+withdrawn-goes : (t : ProcessTable) (p : ℕ) (first : Bool) → GoesOn t (withdrawnOrLate t p (process t p) first)
 unfolding GoesOn
 withdrawn-goes t p true = refl
 withdrawn-goes t p false = refl
