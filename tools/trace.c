@@ -78,12 +78,12 @@ static const uint8_t *guard_at(const uint8_t *process, unsigned list, unsigned i
 
 static Text message_in(const uint8_t *bytes) {
     Text m = {"0"};
-    unsigned kind = bytes[RENDEZVOUS_MESSAGE_KIND];
+    unsigned variant = bytes[RENDEZVOUS_MESSAGE_VARIANT];
     unsigned long first = rendezvous_word(bytes + RENDEZVOUS_MESSAGE_FIRST), second = rendezvous_word(bytes + RENDEZVOUS_MESSAGE_SECOND);
-    if (kind == RENDEZVOUS_WHOLE) snprintf(m.text, sizeof m.text, "w%ld", (long)(int32_t)first);
-    if (kind == RENDEZVOUS_READING) snprintf(m.text, sizeof m.text, "r%08lx", first);
-    if (kind == RENDEZVOUS_LIMIT) snprintf(m.text, sizeof m.text, "l%08lx%08lx", first, second);
-    if (kind > RENDEZVOUS_LIMIT) snprintf(m.text, sizeof m.text, "kind %u", kind);
+    if (variant == RENDEZVOUS_WHOLE) snprintf(m.text, sizeof m.text, "w%ld", (long)(int32_t)first);
+    if (variant == RENDEZVOUS_READING) snprintf(m.text, sizeof m.text, "r%08lx", first);
+    if (variant == RENDEZVOUS_LIMIT) snprintf(m.text, sizeof m.text, "l%08lx%08lx", first, second);
+    if (variant > RENDEZVOUS_LIMIT) snprintf(m.text, sizeof m.text, "variant %u", variant);
     return m;
 }
 

@@ -28,7 +28,7 @@
 #define RENDEZVOUS_GUARDS 8     /* the slots of a list of guards */
 #define RENDEZVOUS_WORD_BYTES 4
 
-#define RENDEZVOUS_MESSAGE_KIND 0
+#define RENDEZVOUS_MESSAGE_VARIANT 0
 #define RENDEZVOUS_MESSAGE_FIRST 1
 #define RENDEZVOUS_MESSAGE_SECOND (RENDEZVOUS_MESSAGE_FIRST + RENDEZVOUS_WORD_BYTES)
 #define RENDEZVOUS_MESSAGE_BYTES (RENDEZVOUS_MESSAGE_SECOND + RENDEZVOUS_WORD_BYTES)
@@ -58,19 +58,19 @@
 #define RENDEZVOUS_HEAD_BYTES (RENDEZVOUS_HEAD_NEXT + RENDEZVOUS_WORD_BYTES)
 #define RENDEZVOUS_TABLE_BYTES (RENDEZVOUS_HEAD_BYTES + RENDEZVOUS_PROCESSES * RENDEZVOUS_RECORD_BYTES)
 
-#define RENDEZVOUS_NOTHING 0 /* kinds of messages */
+#define RENDEZVOUS_NOTHING 0 /* variants of messages */
 #define RENDEZVOUS_WHOLE 1
 #define RENDEZVOUS_READING 2
 #define RENDEZVOUS_LIMIT 3
 
-#define RENDEZVOUS_ANSWER_KIND 0
+#define RENDEZVOUS_ANSWER_VARIANT 0
 #define RENDEZVOUS_ANSWER_FIRST 1
 #define RENDEZVOUS_ANSWER_SECOND 2
 #define RENDEZVOUS_ANSWER_MESSAGE 3
 #define RENDEZVOUS_ANSWER_WORD (RENDEZVOUS_ANSWER_MESSAGE + RENDEZVOUS_MESSAGE_BYTES)
 #define RENDEZVOUS_ANSWER_BYTES (RENDEZVOUS_ANSWER_WORD + RENDEZVOUS_WORD_BYTES)
 
-#define RENDEZVOUS_MADE 0 /* kinds of answers */
+#define RENDEZVOUS_MADE 0 /* variants of answers */
 #define RENDEZVOUS_OFFERED 1
 #define RENDEZVOUS_MOVED 2
 #define RENDEZVOUS_UNCHANGED 3
@@ -145,12 +145,12 @@ static inline void rendezvous_receives(uint8_t *guard, bool enabled, uint8_t par
     guard[RENDEZVOUS_GUARD_PARTNER] = partner;
 }
 
-/* A guard that sends a message of a kind: a whole number or the bits of a reading in `first`, the bits of a limit's low and high in both. */
-static inline void rendezvous_sends(uint8_t *guard, bool enabled, uint8_t partner, uint8_t kind, uint32_t first, uint32_t second) {
+/* A guard that sends a message of a variant: a whole number or the bits of a reading in `first`, the bits of a limit's low and high in both. */
+static inline void rendezvous_sends(uint8_t *guard, bool enabled, uint8_t partner, uint8_t variant, uint32_t first, uint32_t second) {
     uint8_t *message = guard + RENDEZVOUS_GUARD_MESSAGE;
     rendezvous_receives(guard, enabled, partner);
     guard[RENDEZVOUS_GUARD_SENDS] = true;
-    message[RENDEZVOUS_MESSAGE_KIND] = kind;
+    message[RENDEZVOUS_MESSAGE_VARIANT] = variant;
     rendezvous_put_word(message + RENDEZVOUS_MESSAGE_FIRST, first);
     rendezvous_put_word(message + RENDEZVOUS_MESSAGE_SECOND, second);
 }

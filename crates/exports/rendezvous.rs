@@ -29,7 +29,7 @@ pub const PROCESSES: usize = 32;
 pub const GUARDS: usize = 8;
 pub const WORD_BYTES: usize = 4;
 
-pub const MESSAGE_KIND: usize = 0;
+pub const MESSAGE_VARIANT: usize = 0;
 pub const MESSAGE_FIRST: usize = 1;
 pub const MESSAGE_SECOND: usize = MESSAGE_FIRST + WORD_BYTES;
 pub const MESSAGE_BYTES: usize = MESSAGE_SECOND + WORD_BYTES;
@@ -59,20 +59,20 @@ pub const HEAD_NEXT: usize = 1;
 pub const HEAD_BYTES: usize = HEAD_NEXT + WORD_BYTES;
 pub const TABLE_BYTES: usize = HEAD_BYTES + PROCESSES * RECORD_BYTES;
 
-// Kinds of messages.
+// Variants of messages.
 pub const NOTHING: u8 = 0;
 pub const WHOLE: u8 = 1;
 pub const READING: u8 = 2;
 pub const LIMIT: u8 = 3;
 
-pub const ANSWER_KIND: usize = 0;
+pub const ANSWER_VARIANT: usize = 0;
 pub const ANSWER_FIRST: usize = 1;
 pub const ANSWER_SECOND: usize = 2;
 pub const ANSWER_MESSAGE: usize = 3;
 pub const ANSWER_WORD: usize = ANSWER_MESSAGE + MESSAGE_BYTES;
 pub const ANSWER_BYTES: usize = ANSWER_WORD + WORD_BYTES;
 
-// Kinds of answers.
+// Variants of answers.
 pub const MADE: u8 = 0;
 pub const OFFERED: u8 = 1;
 pub const MOVED: u8 = 2;
@@ -216,13 +216,13 @@ pub fn receives(enabled: bool, partner: u8) -> [u8; GUARD_BYTES] {
     guard
 }
 
-/// A guard that sends a message of a kind: a whole number or the bits of a reading in `first`, the
+/// A guard that sends a message of a variant: a whole number or the bits of a reading in `first`, the
 /// bits of a limit's low and high in both.
-pub fn sends(enabled: bool, partner: u8, kind: u8, first: u32, second: u32) -> [u8; GUARD_BYTES] {
+pub fn sends(enabled: bool, partner: u8, variant: u8, first: u32, second: u32) -> [u8; GUARD_BYTES] {
     let mut guard = receives(enabled, partner);
     guard[GUARD_SENDS] = 1;
     let message = &mut guard[GUARD_MESSAGE..];
-    message[MESSAGE_KIND] = kind;
+    message[MESSAGE_VARIANT] = variant;
     message[MESSAGE_FIRST..MESSAGE_SECOND].copy_from_slice(&first.to_le_bytes());
     message[MESSAGE_SECOND..MESSAGE_BYTES].copy_from_slice(&second.to_le_bytes());
     guard

@@ -17,12 +17,12 @@ static uint8_t table[RENDEZVOUS_TABLE_BYTES], after[RENDEZVOUS_TABLE_BYTES], ans
 static FILE *script;
 
 static void write_message(FILE *to, const uint8_t *message) {
-    unsigned kind = message[RENDEZVOUS_MESSAGE_KIND];
+    unsigned variant = message[RENDEZVOUS_MESSAGE_VARIANT];
     unsigned long first = rendezvous_word(message + RENDEZVOUS_MESSAGE_FIRST), second = rendezvous_word(message + RENDEZVOUS_MESSAGE_SECOND);
-    if (kind == RENDEZVOUS_NOTHING) fprintf(to, "0");
-    if (kind == RENDEZVOUS_WHOLE) fprintf(to, "w%ld", (long)(int32_t)first);
-    if (kind == RENDEZVOUS_READING) fprintf(to, "r%08lx", first);
-    if (kind == RENDEZVOUS_LIMIT) fprintf(to, "l%08lx%08lx", first, second);
+    if (variant == RENDEZVOUS_NOTHING) fprintf(to, "0");
+    if (variant == RENDEZVOUS_WHOLE) fprintf(to, "w%ld", (long)(int32_t)first);
+    if (variant == RENDEZVOUS_READING) fprintf(to, "r%08lx", first);
+    if (variant == RENDEZVOUS_LIMIT) fprintf(to, "l%08lx%08lx", first, second);
 }
 
 static void write_guard(FILE *to, const uint8_t *guard) {
@@ -33,20 +33,20 @@ static void write_guard(FILE *to, const uint8_t *guard) {
 
 /* What a call answered, as the script program prints it. */
 static void print_answer(const char *call) {
-    unsigned kind = answer[RENDEZVOUS_ANSWER_KIND], first = answer[RENDEZVOUS_ANSWER_FIRST], second = answer[RENDEZVOUS_ANSWER_SECOND];
-    if (kind == RENDEZVOUS_REFUSED)
+    unsigned variant = answer[RENDEZVOUS_ANSWER_VARIANT], first = answer[RENDEZVOUS_ANSWER_FIRST], second = answer[RENDEZVOUS_ANSWER_SECOND];
+    if (variant == RENDEZVOUS_REFUSED)
         printf("x %u", first);
     else
         printf("%s", call);
-    if (kind == RENDEZVOUS_OFFERED) printf(" t%lu", (unsigned long)rendezvous_word(answer + RENDEZVOUS_ANSWER_WORD));
-    if (kind == RENDEZVOUS_MOVED) printf(" %c", first);
-    if (kind == RENDEZVOUS_MOVED && strchr("ATC", first)) printf("%u", second);
-    if (kind == RENDEZVOUS_UNCHANGED) printf(" =");
-    if (kind == RENDEZVOUS_COLLECTED) printf(" %u %u ", first, second);
-    if (kind == RENDEZVOUS_COLLECTED) write_message(stdout, answer + RENDEZVOUS_ANSWER_MESSAGE);
-    if (kind == RENDEZVOUS_WITHDRAWN) printf(" ok");
-    if (kind == RENDEZVOUS_TOO_LATE) printf(" late");
-    if (kind == RENDEZVOUS_RUNNABLE) printf(" %08lx", (unsigned long)rendezvous_word(answer + RENDEZVOUS_ANSWER_WORD));
+    if (variant == RENDEZVOUS_OFFERED) printf(" t%lu", (unsigned long)rendezvous_word(answer + RENDEZVOUS_ANSWER_WORD));
+    if (variant == RENDEZVOUS_MOVED) printf(" %c", first);
+    if (variant == RENDEZVOUS_MOVED && strchr("ATC", first)) printf("%u", second);
+    if (variant == RENDEZVOUS_UNCHANGED) printf(" =");
+    if (variant == RENDEZVOUS_COLLECTED) printf(" %u %u ", first, second);
+    if (variant == RENDEZVOUS_COLLECTED) write_message(stdout, answer + RENDEZVOUS_ANSWER_MESSAGE);
+    if (variant == RENDEZVOUS_WITHDRAWN) printf(" ok");
+    if (variant == RENDEZVOUS_TOO_LATE) printf(" late");
+    if (variant == RENDEZVOUS_RUNNABLE) printf(" %08lx", (unsigned long)rendezvous_word(answer + RENDEZVOUS_ANSWER_WORD));
     printf("\n");
 }
 

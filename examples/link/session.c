@@ -38,5 +38,5 @@ int main(void) {
     bits = rendezvous_word(answer + RENDEZVOUS_ANSWER_MESSAGE + RENDEZVOUS_MESSAGE_FIRST);
     memcpy(&received, &bits, sizeof received);
     printf("process 1 collects %.2f from process %d\n", received, answer[RENDEZVOUS_ANSWER_SECOND]);
-    return answer[RENDEZVOUS_ANSWER_KIND] == RENDEZVOUS_COLLECTED && memcmp(&received, &sent, sizeof sent) == 0 ? 0 : 1;
+    return answer[RENDEZVOUS_ANSWER_VARIANT] == RENDEZVOUS_COLLECTED && memcmp(&received, &sent, sizeof sent) == 0 ? 0 : 1;
 }

@@ -5,7 +5,7 @@
 mod rendezvous;
 
 use rendezvous::{collect, create, offer, receives, sends, step, word};
-use rendezvous::{ANSWER_BYTES, ANSWER_KIND, ANSWER_MESSAGE, ANSWER_SECOND, TABLE_BYTES};
+use rendezvous::{ANSWER_BYTES, ANSWER_VARIANT, ANSWER_MESSAGE, ANSWER_SECOND, TABLE_BYTES};
 use rendezvous::{COLLECTED, MESSAGE_FIRST, READING};
 
 fn main() {
@@ -30,6 +30,6 @@ fn main() {
     let received = f32::from_bits(word(&answer[ANSWER_MESSAGE + MESSAGE_FIRST..]));
     let partner = answer[ANSWER_SECOND];
     println!("process 1 collects {received:.2} from process {partner}");
-    assert_eq!(answer[ANSWER_KIND], COLLECTED);
+    assert_eq!(answer[ANSWER_VARIANT], COLLECTED);
     assert_eq!(received.to_bits(), sent.to_bits());
 }

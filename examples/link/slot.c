@@ -42,7 +42,7 @@ static void keep(bool called) {
 
 static void offer(uint8_t p, const uint8_t *guard) {
     keep(rendezvous_offer(table, sizeof table, p, guard, RENDEZVOUS_GUARD_BYTES, after, sizeof after, answer, sizeof answer));
-    if (answer[RENDEZVOUS_ANSWER_KIND] != RENDEZVOUS_OFFERED) fail("an offer is refused");
+    if (answer[RENDEZVOUS_ANSWER_VARIANT] != RENDEZVOUS_OFFERED) fail("an offer is refused");
 }
 
 /* Every process steps once, in number order. Gives whether that changed anything. */
@@ -50,7 +50,7 @@ static bool round_changes(void) {
     bool changes = false;
     for (uint8_t p = 0; p < PROCESSES; p++) {
         keep(rendezvous_step(table, sizeof table, p, after, sizeof after, answer, sizeof answer));
-        if (answer[RENDEZVOUS_ANSWER_KIND] == RENDEZVOUS_MOVED) changes = true;
+        if (answer[RENDEZVOUS_ANSWER_VARIANT] == RENDEZVOUS_MOVED) changes = true;
     }
     return changes;
 }
@@ -59,14 +59,14 @@ static bool round_changes(void) {
 static bool collected(uint8_t p, uint32_t *taken) {
     keep(rendezvous_collect(table, sizeof table, p, after, sizeof after, answer, sizeof answer));
     *taken = rendezvous_word(answer + RENDEZVOUS_ANSWER_MESSAGE + RENDEZVOUS_MESSAGE_FIRST);
-    return answer[RENDEZVOUS_ANSWER_KIND] == RENDEZVOUS_COLLECTED;
+    return answer[RENDEZVOUS_ANSWER_VARIANT] == RENDEZVOUS_COLLECTED;
 }
 
 /* Whether the offer of process p is withdrawn. If not, a commit came first. */
 static bool withdrawn(uint8_t p) {
     keep(rendezvous_withdraw(table, sizeof table, p, after, sizeof after, answer, sizeof answer));
-    if (answer[RENDEZVOUS_ANSWER_KIND] == RENDEZVOUS_TOO_LATE) counts[p].late++;
-    return answer[RENDEZVOUS_ANSWER_KIND] == RENDEZVOUS_WITHDRAWN;
+    if (answer[RENDEZVOUS_ANSWER_VARIANT] == RENDEZVOUS_TOO_LATE) counts[p].late++;
+    return answer[RENDEZVOUS_ANSWER_VARIANT] == RENDEZVOUS_WITHDRAWN;
 }
 
 /* Gives the lock up until another task has met or given up, for a millisecond at most. */

@@ -17,7 +17,7 @@
 mod rendezvous;
 
 use rendezvous::{collect, create, offer, receives, sends, step, withdraw, word};
-use rendezvous::{ANSWER_BYTES, ANSWER_KIND, ANSWER_MESSAGE, HEAD_NEXT, TABLE_BYTES};
+use rendezvous::{ANSWER_BYTES, ANSWER_VARIANT, ANSWER_MESSAGE, HEAD_NEXT, TABLE_BYTES};
 use rendezvous::{COLLECTED, MESSAGE_FIRST, MOVED, OFFERED, READING, TOO_LATE, WITHDRAWN};
 use std::sync::{Condvar, Mutex};
 use std::thread;
@@ -45,17 +45,17 @@ impl Table {
         }
     }
 
-    /// The table that a call hands back is the one for the next call. Gives the kind of the answer.
+    /// The table that a call hands back is the one for the next call. Gives the variant of the answer.
     fn call(&mut self, called: impl FnOnce(&[u8], &mut [u8], &mut [u8]) -> bool) -> u8 {
         let mut after = [0; TABLE_BYTES];
         assert!(called(&self.bytes, &mut after, &mut self.answer));
         self.bytes = after;
-        self.answer[ANSWER_KIND]
+        self.answer[ANSWER_VARIANT]
     }
 
     fn offer(&mut self, p: u8, guard: &[u8]) {
-        let kind = self.call(|table, after, answer| offer(table, p, guard, after, answer));
-        assert_eq!(kind, OFFERED, "an offer is refused");
+        let variant = self.call(|table, after, answer| offer(table, p, guard, after, answer));
+        assert_eq!(variant, OFFERED, "an offer is refused");
     }
 
     /// Every process steps once, in number order. Gives whether that changed anything.
@@ -69,15 +69,15 @@ impl Table {
 
     /// The bits of what process p collects, if it is at M.
     fn collected(&mut self, p: u8) -> Option<u32> {
-        let kind = self.call(|table, after, answer| collect(table, p, after, answer));
-        (kind == COLLECTED).then_some(word(&self.answer[ANSWER_MESSAGE + MESSAGE_FIRST..]))
+        let variant = self.call(|table, after, answer| collect(table, p, after, answer));
+        (variant == COLLECTED).then_some(word(&self.answer[ANSWER_MESSAGE + MESSAGE_FIRST..]))
     }
 
     /// Whether the offer of process p is withdrawn. If not, a commit came first.
     fn withdrawn(&mut self, p: u8) -> bool {
-        let kind = self.call(|table, after, answer| withdraw(table, p, after, answer));
-        self.late += u32::from(kind == TOO_LATE);
-        kind == WITHDRAWN
+        let variant = self.call(|table, after, answer| withdraw(table, p, after, answer));
+        self.late += u32::from(variant == TOO_LATE);
+        variant == WITHDRAWN
     }
 }
 

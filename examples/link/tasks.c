@@ -53,7 +53,7 @@ static void keep(bool called) {
 
 static void offer(uint8_t p, const uint8_t *guards, size_t length) {
     keep(rendezvous_offer(table, sizeof table, p, guards, length, after, sizeof after, answer, sizeof answer));
-    if (answer[RENDEZVOUS_ANSWER_KIND] != RENDEZVOUS_OFFERED) fail("an offer is refused");
+    if (answer[RENDEZVOUS_ANSWER_VARIANT] != RENDEZVOUS_OFFERED) fail("an offer is refused");
 }
 
 /* Every process steps once, in number order. Gives whether that changed anything. */
@@ -61,7 +61,7 @@ static bool round_changes(void) {
     bool changes = false;
     for (uint8_t p = 0; p < PROCESSES; p++) {
         keep(rendezvous_step(table, sizeof table, p, after, sizeof after, answer, sizeof answer));
-        if (answer[RENDEZVOUS_ANSWER_KIND] == RENDEZVOUS_MOVED) changes = true;
+        if (answer[RENDEZVOUS_ANSWER_VARIANT] == RENDEZVOUS_MOVED) changes = true;
     }
     return changes;
 }
@@ -69,7 +69,7 @@ static bool round_changes(void) {
 /* Whether process p was at M; its outcome is then in the answer. */
 static bool collected(uint8_t p) {
     keep(rendezvous_collect(table, sizeof table, p, after, sizeof after, answer, sizeof answer));
-    return answer[RENDEZVOUS_ANSWER_KIND] == RENDEZVOUS_COLLECTED;
+    return answer[RENDEZVOUS_ANSWER_VARIANT] == RENDEZVOUS_COLLECTED;
 }
 
 /* The loop of a task: process p offers the guards, and meets. */

@@ -21,7 +21,7 @@
 mod rendezvous;
 
 use rendezvous::{collect, create, offer, receives, sends, step, word};
-use rendezvous::{ANSWER_BYTES, ANSWER_FIRST, ANSWER_KIND, ANSWER_MESSAGE, TABLE_BYTES};
+use rendezvous::{ANSWER_BYTES, ANSWER_FIRST, ANSWER_VARIANT, ANSWER_MESSAGE, TABLE_BYTES};
 use rendezvous::{COLLECTED, LIMIT, MESSAGE_FIRST, MESSAGE_SECOND, MOVED, OFFERED, READING};
 use std::sync::{Condvar, Mutex};
 use std::thread;
@@ -59,7 +59,7 @@ impl Table {
 
     fn offer(&mut self, p: u8, guards: &[u8]) {
         self.call(|table, after, answer| offer(table, p, guards, after, answer));
-        assert_eq!(self.answer[ANSWER_KIND], OFFERED, "an offer is refused");
+        assert_eq!(self.answer[ANSWER_VARIANT], OFFERED, "an offer is refused");
     }
 
     /// Every process steps once, in number order. Gives whether that changed anything.
@@ -67,7 +67,7 @@ impl Table {
         let mut changes = false;
         for p in 0..PROCESSES {
             self.call(|table, after, answer| step(table, p, after, answer));
-            changes |= self.answer[ANSWER_KIND] == MOVED;
+            changes |= self.answer[ANSWER_VARIANT] == MOVED;
         }
         changes
     }
@@ -76,7 +76,7 @@ impl Table {
     fn collected(&mut self, p: u8) -> Option<Outcome> {
         self.call(|table, after, answer| collect(table, p, after, answer));
         let message = &self.answer[ANSWER_MESSAGE..];
-        (self.answer[ANSWER_KIND] == COLLECTED).then_some(Outcome {
+        (self.answer[ANSWER_VARIANT] == COLLECTED).then_some(Outcome {
             guard: self.answer[ANSWER_FIRST],
             low: word(&message[MESSAGE_FIRST..]),
             high: word(&message[MESSAGE_SECOND..]),

@@ -11,7 +11,7 @@ use lib.Dec.{eqb}
 use lib.ListN.{length, getD, drop}
 use Rattle.text.specs.Types.{_>>=_}
 use Rattle.text.specs.Reading.{provided}
-use Rattle.command.specs.Types.{Command, Movers, Kind}
+use Rattle.command.specs.Types.{Command, Movers, Verb}
 use Rattle.command.specs.InCode.{plain, asParsed}
 use Rattle.command.specs.Private.{asNumbered}
 use Rattle.command.specs.Commands.{isEmpty, fields, putBefore, numberIn, numbered, offerIn, byLetter, commandIn, commandOf}
@@ -73,11 +73,11 @@ unfolding byLetter
 with-none k s n o t c w = rw (ne-eqb k (code "n") n, ne-eqb k (code "o") o, ne-eqb k (code "s") t, ne-eqb k (code "c") c, ne-eqb k (code "w") w) (no-movers s (eqb k (code "m")))
 
 -- a command of one number, in the form of the code
-pub numbered-as : (kind : Kind) (make : ℕ → Command) → ((n : ℕ) → plain kind n ≡ asParsed (some (make n))) → (fs : List (List ℕ)) → asNumbered kind (numberIn fs) ≡ asParsed (numbered make fs)
+pub numbered-as : (verb : Verb) (make : ℕ → Command) → ((n : ℕ) → plain verb n ≡ asParsed (some (make n))) → (fs : List (List ℕ)) → asNumbered verb (numberIn fs) ≡ asParsed (numbered make fs)
 unfolding numbered
-numbered-as kind make h fs = go (numberIn fs)
+numbered-as verb make h fs = go (numberIn fs)
   where
-    go : (o : Option ℕ) → asNumbered kind o ≡ asParsed (_>>=_ o (λ n. some (make n)))
+    go : (o : Option ℕ) → asNumbered verb o ≡ asParsed (_>>=_ o (λ n. some (make n)))
     go none = refl
     go (some n) = h n
 

@@ -8,14 +8,14 @@ use mathlib.Core.Option.{Option, some, none}
 use lib.Dec.{eqb}
 use Rattle.alternative.specs.Guards.{lent}
 use Rattle.text.specs.Types.{_>>=_}
-use Rattle.command.specs.Types.{Message, Action, Guard, GuardList, Offer, Do, Kind, Parsed, ReadMessage, ReadAction, ReadGuard}
+use Rattle.command.specs.Types.{Message, Action, Guard, GuardList, Offer, Do, Verb, Parsed, ReadMessage, ReadAction, ReadGuard}
 use Rattle.command.specs.Commands.{fields, leading}
 use Rattle.command.specs.InCode.{plain, asParsed}
 
 -- a command of one number
-abbrev pub asNumbered : Kind → Option ℕ → Parsed
-asNumbered kind none = plain Kind.Malformed 0
-asNumbered kind (some n) = plain kind n
+abbrev pub asNumbered : Verb → Option ℕ → Parsed
+asNumbered verb none = plain Verb.Malformed 0
+asNumbered verb (some n) = plain verb n
 
 -- an offer by p
 abbrev pub asOffer : ℕ → Option (List Guard) → Parsed

@@ -5,7 +5,7 @@ pub use Rattle.alternative.specs.declared.Message.{Message}
 pub use Rattle.alternative.specs.declared.Action.{Action}
 pub use Rattle.alternative.specs.declared.Guard.{Guard}
 pub use Rattle.alternative.specs.declared.GuardList.{GuardList}
-pub use Rattle.command.specs.declared.Kind.{Kind}
+pub use Rattle.command.specs.declared.Verb.{Verb}
 pub use Rattle.command.specs.declared.Parsed.{Parsed}
 pub use Rattle.command.specs.declared.ReadMessage.{ReadMessage}
 pub use Rattle.command.specs.declared.ReadAction.{ReadAction}

@@ -1,6 +1,6 @@
 // A whole line: its letter, and what stands after it.
-use crate::Kind;
 use crate::Parsed;
+use crate::Verb;
 use crate::fields::field_length;
 use crate::offers::parse_offer;
 use crate::plain_command;
@@ -13,15 +13,15 @@ ghost use Rattle.command.specs.InCode.{asParsed};
 ghost use Rattle.command.specs.Private.{asNumbered};
 
 // A command of one number, which is the only field after the letter.
-fn parse_numbered(kind: Kind, s: &[u8]) -> Parsed
-    ensures { λ r. ⌜ r ≡ asNumbered kind (numberIn (fields (now (s .entry)))) ⌝ }
+fn parse_numbered(verb: Verb, s: &[u8]) -> Parsed
+    ensures { λ r. ⌜ r ≡ asNumbered verb (numberIn (fields (now (s .entry)))) ⌝ }
 {
     if field_length(s) < s.len() {
-        return plain_command(Kind::Malformed, 0);
+        return plain_command(Verb::Malformed, 0);
     }
     match read_byte_number(s) {
-        ByteNumber::Malformed => plain_command(Kind::Malformed, 0),
-        ByteNumber::Value(n) => plain_command(kind, n),
+        ByteNumber::Malformed => plain_command(Verb::Malformed, 0),
+        ByteNumber::Value(n) => plain_command(verb, n),
     }
 }
 
@@ -30,9 +30,9 @@ fn parse_alone(letter: u8) -> Parsed
     ensures { λ r. ⌜ r ≡ asParsed (byLetter letter []) ⌝ }
 {
     if letter == b'm' {
-        return plain_command(Kind::Movers, 0);
+        return plain_command(Verb::Movers, 0);
     }
-    plain_command(Kind::Malformed, 0)
+    plain_command(Verb::Malformed, 0)
 }
 
 // A letter, and the bytes after the space that follows it: one field or more.
@@ -40,21 +40,21 @@ fn parse_with(letter: u8, s: &[u8]) -> Parsed
     ensures { λ r. ⌜ r ≡ asParsed (byLetter letter (fields (now (s .entry)))) ⌝ }
 {
     if letter == b'n' {
-        return parse_numbered(Kind::New, s);
+        return parse_numbered(Verb::New, s);
     }
     if letter == b'o' {
         return parse_offer(s);
     }
     if letter == b's' {
-        return parse_numbered(Kind::Step, s);
+        return parse_numbered(Verb::Step, s);
     }
     if letter == b'c' {
-        return parse_numbered(Kind::Collect, s);
+        return parse_numbered(Verb::Collect, s);
     }
     if letter == b'w' {
-        return parse_numbered(Kind::Withdraw, s);
+        return parse_numbered(Verb::Withdraw, s);
     }
-    plain_command(Kind::Malformed, 0)
+    plain_command(Verb::Malformed, 0)
 }
 
 // The command that the bytes of a line write.
@@ -63,7 +63,7 @@ pub fn parse(line: &[u8]) -> Parsed
 {
     let n = line.len();
     if n == 0 {
-        return plain_command(Kind::Malformed, 0);
+        return plain_command(Verb::Malformed, 0);
     }
     let letter = line[0];
     if n == 1 {
@@ -72,5 +72,5 @@ pub fn parse(line: &[u8]) -> Parsed
     if line[1] == b' ' {
         return parse_with(letter, &line[2..]);
     }
-    plain_command(Kind::Malformed, 0)
+    plain_command(Verb::Malformed, 0)
 }

@@ -18,7 +18,7 @@ mod offers;
 pub use commands::parse;
 
 // Which command a line writes.
-pub enum Kind {
+pub enum Verb {
     Malformed,
     New,
     Offer,
@@ -28,21 +28,21 @@ pub enum Kind {
     Movers,
 }
 
-// A command: its kind, its number, N or P, and the guards of an offer. What a kind does not have is 0, or an empty list.
-// It is a struct and no enum with the parts of each kind, since a list of guards is an array.
+// A command: its verb, its number, N or P, and the guards of an offer. What a verb does not have is 0, or an empty list.
+// It is a struct and no enum with the parts of each verb, since a list of guards is an array.
 pub struct Parsed {
-    pub kind: Kind,
+    pub verb: Verb,
     pub number: u8,
     pub list: GuardList,
 }
 
 // A command without guards.
-pub fn plain_command(kind: Kind, number: u8) -> Parsed
-    ensures { λ r. ⌜ r ≡ plain kind number ⌝ }
+pub fn plain_command(verb: Verb, number: u8) -> Parsed
+    ensures { λ r. ⌜ r ≡ plain verb number ⌝ }
 {
     let list = no_guards();
     Parsed {
-        kind: kind,
+        verb: verb,
         number: number,
         list: list,
     }

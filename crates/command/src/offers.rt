@@ -1,7 +1,7 @@
 // An offer: its process, and its guards, one in each field.
-use crate::Kind;
 use crate::Parsed;
 use crate::ReadGuard;
+use crate::Verb;
 use crate::fields::field_length;
 use crate::guards::read_guard;
 use crate::lists::no_guards;
@@ -25,7 +25,7 @@ fn offer_of(p: u8, s: &[u8]) -> Parsed
         let end = from + field_length(&s[from..]);
         match read_guard(&s[from..end]) {
             ReadGuard::Malformed => {
-                return plain_command(Kind::Malformed, 0);
+                return plain_command(Verb::Malformed, 0);
             }
             ReadGuard::Value(guard) => {
                 list = with_guard(list, guard);
@@ -34,7 +34,7 @@ fn offer_of(p: u8, s: &[u8]) -> Parsed
         at = end;
     }
     Parsed {
-        kind: Kind::Offer,
+        verb: Verb::Offer,
         number: p,
         list: list,
     }
@@ -46,7 +46,7 @@ pub fn parse_offer(s: &[u8]) -> Parsed
 {
     let end = field_length(s);
     match read_byte_number(&s[..end]) {
-        ByteNumber::Malformed => plain_command(Kind::Malformed, 0),
+        ByteNumber::Malformed => plain_command(Verb::Malformed, 0),
         ByteNumber::Value(p) => offer_of(p, &s[end..]),
     }
 }

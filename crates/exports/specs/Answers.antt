@@ -6,12 +6,12 @@ use Rattle.wire.specs.Writing.{wordBytes, messageBytes, bytesOf}
 use Rattle.exports.specs.Layout.{answerLength}
 use Rattle.exports.specs.Types.{ℕ, _≡_, Bool, true, _&&_, cond, List, [], _∷_, _++_, flatten, Option, some, none, length, drop, leb, Message, Reply}
 
--- the kind of answer and two bytes, a message, a word
+-- the variant of answer and two bytes, a message, a word
 abbrev pub answerParts : ℕ → ℕ → ℕ → Message → ℕ → List (List ℕ)
-answerParts kind a b m word = (kind ∷ a ∷ b ∷ []) ∷ messageBytes m ∷ wordBytes word ∷ []
+answerParts variant a b m word = (variant ∷ a ∷ b ∷ []) ∷ messageBytes m ∷ wordBytes word ∷ []
 
 abbrev pub laidOut : ℕ → ℕ → ℕ → Message → ℕ → List ℕ
-laidOut kind a b m word = flatten (answerParts kind a b m word)
+laidOut variant a b m word = flatten (answerParts variant a b m word)
 
 -- a guard index, 0 where there is none
 abbrev pub indexByte : Option ℕ → ℕ
@@ -19,7 +19,7 @@ indexByte none = 0
 indexByte (some i) = i
 
 -- By the documents' numbers and letters: a step's place by its letter and its guard index; an outcome by guard index, partner and message; a
--- refusal by its number; a ticket and the set of movers as the word; what a withdrawal says by the kind alone.
+-- refusal by its number; a ticket and the set of movers as the word; what a withdrawal says by the variant alone.
 abbrev pub saidBytes : Said → List ℕ
 saidBytes made = laidOut 0 0 0 Message.Nothing 0
 saidBytes (ticket t) = laidOut 1 0 0 Message.Nothing t

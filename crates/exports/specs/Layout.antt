@@ -6,7 +6,7 @@ use Rattle.script.specs.Lines.{begunLength}
 use Rattle.wire.specs.Layout.{wordLength, messageLength, tableLength}
 use Rattle.exports.specs.Types.{ℕ, _≡_}
 
--- an answer: its kind, two bytes, a message, a word
+-- an answer: its variant, two bytes, a message, a word
 abbrev pub messageAt : ℕ
 messageAt = 3
 

@@ -14,11 +14,11 @@ ghost use Rattle.rendezvous.specs.Numbers.{said};
 ghost use Rattle.process.specs.Process.{indexOf};
 ghost use Rattle.exports.specs.Answers.{laidOut, indexByte, saidBytes, isTable, Gives};
 
-fn laid_out(kind: u8, a: u8, b: u8, m: Message, word: u32) -> [u8; layout::ANSWER_BYTES]
-    ensures { λ r. ⌜ r ≡ laidOut kind a b m word ⌝ }
+fn laid_out(variant: u8, a: u8, b: u8, m: Message, word: u32) -> [u8; layout::ANSWER_BYTES]
+    ensures { λ r. ⌜ r ≡ laidOut variant a b m word ⌝ }
 {
     let mut out = [0u8; layout::ANSWER_BYTES];
-    let three = [kind, a, b];
+    let three = [variant, a, b];
     put_bytes(&mut out, 0, &three);
     let message = message_bytes(m);
     put_bytes(&mut out, layout::MESSAGE_AT, &message);

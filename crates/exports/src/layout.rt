@@ -5,7 +5,7 @@ use wire::MESSAGE_BYTES;
 use wire::TABLE_BYTES;
 use wire::WORD_BYTES;
 
-// An answer: its kind, two bytes, a message, a word.
+// An answer: its variant, two bytes, a message, a word.
 pub const MESSAGE_AT: usize = 3;
 
 pub const WORD_AT: usize = MESSAGE_AT + MESSAGE_BYTES;

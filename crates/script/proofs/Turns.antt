@@ -9,7 +9,7 @@ use native.Mathlib.Omega.{arith}
 use lib.ListN.{length, length-append}
 use Rattle.alternative.specs.Guards.{lent}
 use Rattle.text.specs.Writing.{lineLength}
-use Rattle.command.specs.declared.Kind.{Kind}
+use Rattle.command.specs.declared.Verb.{Verb}
 use Rattle.command.specs.declared.Parsed.{Parsed}
 use Rattle.command.specs.InCode.{asParsed}
 use Rattle.process.specs.Rules.{Effect, Neither, Own, Both, partnerOf}
@@ -72,55 +72,55 @@ new-goes true false t new = refl
 new-goes false true t new = refl
 new-goes false false t new = refl
 
--- the reply to a call of one process; a command of another kind changes nothing
-abbrev pub calledBy : ProcessTable → Kind → ℕ → GuardList → Reply
-calledBy t Kind.Offer n list = offerList t n list
-calledBy t Kind.Step n list = step t n
-calledBy t Kind.Collect n list = collect t n
-calledBy t Kind.Withdraw n list = withdraw t n
-calledBy t Kind.Malformed n list = record { answer = Answer.Unchanged; table = t }
-calledBy t Kind.New n list = record { answer = Answer.Unchanged; table = t }
-calledBy t Kind.Movers n list = record { answer = Answer.Unchanged; table = t }
+-- the reply to a call of one process; a command with another verb changes nothing
+abbrev pub calledBy : ProcessTable → Verb → ℕ → GuardList → Reply
+calledBy t Verb.Offer n list = offerList t n list
+calledBy t Verb.Step n list = step t n
+calledBy t Verb.Collect n list = collect t n
+calledBy t Verb.Withdraw n list = withdraw t n
+calledBy t Verb.Malformed n list = record { answer = Answer.Unchanged; table = t }
+calledBy t Verb.New n list = record { answer = Answer.Unchanged; table = t }
+calledBy t Verb.Movers n list = record { answer = Answer.Unchanged; table = t }
 
 -- .. is what a line's act does, carried out where it was read
-pub line-done : (t : ProcessTable) (k : Kind) (p : ℕ) (list : GuardList) (formed : Bool) (q : ℕ) (act : Act) → formed ≡ wellFormed t → q ≡ partnerOf (process t (p % mostProcesses))
+pub line-done : (t : ProcessTable) (k : Verb) (p : ℕ) (list : GuardList) (formed : Bool) (q : ℕ) (act : Act) → formed ≡ wellFormed t → q ≡ partnerOf (process t (p % mostProcesses))
     → act ≡ lineAct k p list formed (t .head) (process t (p % mostProcesses)) q (process t (q % mostProcesses)) → done t (p % mostProcesses) (q % mostProcesses) act ≡ calledBy t k p list
 unfolding lineAct
-line-done t Kind.Offer p list formed q act form named e = offer-done t p formed form act list (q % mostProcesses) e
-line-done t Kind.Step p list formed q act form named e = step-done t p formed form act q named e
-line-done t Kind.Collect p list formed q act form named e = collect-done t p formed form act (q % mostProcesses) e
-line-done t Kind.Withdraw p list formed q act form named e = withdraw-done t p formed form act (q % mostProcesses) e
-line-done t Kind.Malformed p list formed q act form named e = rw e (nothing-done t (p % mostProcesses) (q % mostProcesses) Answer.Unchanged)
-line-done t Kind.New p list formed q act form named e = rw e (nothing-done t (p % mostProcesses) (q % mostProcesses) Answer.Unchanged)
-line-done t Kind.Movers p list formed q act form named e = rw e (nothing-done t (p % mostProcesses) (q % mostProcesses) Answer.Unchanged)
+line-done t Verb.Offer p list formed q act form named e = offer-done t p formed form act list (q % mostProcesses) e
+line-done t Verb.Step p list formed q act form named e = step-done t p formed form act q named e
+line-done t Verb.Collect p list formed q act form named e = collect-done t p formed form act (q % mostProcesses) e
+line-done t Verb.Withdraw p list formed q act form named e = withdraw-done t p formed form act (q % mostProcesses) e
+line-done t Verb.Malformed p list formed q act form named e = rw e (nothing-done t (p % mostProcesses) (q % mostProcesses) Answer.Unchanged)
+line-done t Verb.New p list formed q act form named e = rw e (nothing-done t (p % mostProcesses) (q % mostProcesses) Answer.Unchanged)
+line-done t Verb.Movers p list formed q act form named e = rw e (nothing-done t (p % mostProcesses) (q % mostProcesses) Answer.Unchanged)
 
 -- `n` and `m` come after the calls of one process, which they find undone
-abbrev replyAfter : ProcessTable → Kind → ℕ → GuardList → Reply
+abbrev replyAfter : ProcessTable → Verb → ℕ → GuardList → Reply
 replyAfter t k n list = cond (isNew k) (newReply t n) (cond (isMovers k) (runnable t) (calledBy t k n list))
 
-abbrev madeAfter : Bool → Kind → Answer → Bool
+abbrev madeAfter : Bool → Verb → Answer → Bool
 madeAfter made k answer = cond (isNew k) (made || not (isRefused answer)) made
 
 -- what the code has after a command
-pub record Has (made : Bool) (t : ProcessTable) (k : Kind) (n : ℕ) (list : GuardList) (made′ : Bool) (reply : Reply) : Type 0 where
+pub record Has (made : Bool) (t : ProcessTable) (k : Verb) (n : ℕ) (list : GuardList) (made′ : Bool) (reply : Reply) : Type 0 where
   pub replies : reply ≡ replyAfter t k n list
   pub makes : made′ ≡ madeAfter made k (reply .answer)
 
-undone : (t : ProcessTable) (k : Kind) (n : ℕ) (list : GuardList) → (isNew k || isMovers k) ≡ true → calledBy t k n list .table ≡ t
-undone t Kind.New n list e = refl
-undone t Kind.Movers n list e = refl
-undone t Kind.Malformed n list e = absurd (false≢true e)
-undone t Kind.Offer n list e = absurd (false≢true e)
-undone t Kind.Step n list e = absurd (false≢true e)
-undone t Kind.Collect n list e = absurd (false≢true e)
-undone t Kind.Withdraw n list e = absurd (false≢true e)
+undone : (t : ProcessTable) (k : Verb) (n : ℕ) (list : GuardList) → (isNew k || isMovers k) ≡ true → calledBy t k n list .table ≡ t
+undone t Verb.New n list e = refl
+undone t Verb.Movers n list e = refl
+undone t Verb.Malformed n list e = absurd (false≢true e)
+undone t Verb.Offer n list e = absurd (false≢true e)
+undone t Verb.Step n list e = absurd (false≢true e)
+undone t Verb.Collect n list e = absurd (false≢true e)
+undone t Verb.Withdraw n list e = absurd (false≢true e)
 
 movers-leave : (v : Verdict) (t : ProcessTable) (answer : Answer) → ifAccepted v t (record { answer = answer; table = t }) .table ≡ t
 movers-leave Verdict.Accepted t answer = refl
 movers-leave (Verdict.Refused r) t answer = refl
 
 -- after the call of one process, whose reply is `before`
-module _ (made : Bool) (t : ProcessTable) (k : Kind) (n : ℕ) (list : GuardList) (before : Reply) (called : before ≡ calledBy t k n list) where
+module _ (made : Bool) (t : ProcessTable) (k : Verb) (n : ℕ) (list : GuardList) (before : Reply) (called : before ≡ calledBy t k n list) where
   pub has-called : isNew k ≡ false → isMovers k ≡ false → Has made t k n list made before
   has-called e f = record { replies = rw (e, f) called; makes = rw e refl }
 
@@ -139,8 +139,8 @@ module _ (made : Bool) (t : ProcessTable) (k : Kind) (n : ℕ) (list : GuardList
       record { replies = rw (e, f, same) (ap (λ (u : ProcessTable). record { answer = reply .answer; table = u }) (sym leaves) ∙ is); makes = rw e refl }
 
 -- what it prints and leaves is the command's turn
-left-turn : (made : Bool) (t : ProcessTable) (c : Option Command) → let p = heard made (asParsed c) in let r = replyAfter t (p .kind) (p .number) (p .list) in
-    _≡_ {A = Turn} (record { prints = lineText (p .kind) (p .number) (r .answer); table = tableIf (madeAfter made (p .kind) (r .answer)) (r .table) }) (turn (tableIf made t) c)
+left-turn : (made : Bool) (t : ProcessTable) (c : Option Command) → let p = heard made (asParsed c) in let r = replyAfter t (p .verb) (p .number) (p .list) in
+    _≡_ {A = Turn} (record { prints = lineText (p .verb) (p .number) (r .answer); table = tableIf (madeAfter made (p .verb) (r .answer)) (r .table) }) (turn (tableIf made t) c)
 unfolding GoesOn lineText turn replyFrom replyToCommand replyTo answered newReply
 left-turn true t none = refl
 left-turn true t (some (New n)) = rw (new-goes true (isRefused (create n .answer)) t (create n .table))
@@ -158,7 +158,7 @@ left-turn false t (some (Do (Withdraw p))) = refl
 left-turn false t (some Movers) = refl
 
 pub line-turn : (made : Bool) (t : ProcessTable) (line : List ℕ) (c p : Parsed) (text : List ℕ) (made′ : Bool) (reply : Reply) → c ≡ asParsed (lineCommand (Ended line)) → p ≡ heard made c
-    → Has made t (p .kind) (p .number) (p .list) made′ reply → text ≡ lineText (p .kind) (p .number) (reply .answer)
+    → Has made t (p .verb) (p .number) (p .list) made′ reply → text ≡ lineText (p .verb) (p .number) (reply .answer)
     → _≡_ {A = Turn} (record { prints = text; table = tableIf made′ (reply .table) }) (turn (tableIf made t) (lineCommand (Ended line)))
 line-turn made t line c p text made′ reply parsed hears has prints = rw (prints, has .makes, has .replies, hears, parsed) (left-turn made t (lineCommand (Ended line)))
 

@@ -1,6 +1,6 @@
 // What a line's command does to the table.
-use command::Kind;
 use command::Parsed;
+use command::Verb;
 use process::Process;
 use rendezvous::Act;
 use rendezvous::Answer;
@@ -16,21 +16,21 @@ ghost use mathlib.Core.Path.{_≡_};
 ghost use Rattle.script.specs.Session.{isRefused};
 ghost use Rattle.script.specs.Private.{lineAct, newReply};
 
-// A call of one process, from what was read of the table. A command of another kind does nothing here.
+// A call of one process, from what was read of the table. A command with another verb does nothing here.
 pub fn line_act(command: Parsed, formed: bool, head: Head, x: Process, q: u8, y: Process) -> Act
-    ensures { λ r. ⌜ r ≡ lineAct (command .kind) (command .number) (command .list) formed head x q y ⌝ }
+    ensures { λ r. ⌜ r ≡ lineAct (command .verb) (command .number) (command .list) formed head x q y ⌝ }
 {
-    let kind = command.kind;
+    let verb = command.verb;
     let p = command.number;
     let list = command.list;
-    match kind {
-        Kind::Offer => offer_act(formed, head, p, x, list),
-        Kind::Step => step_act(formed, head, p, x, q, y),
-        Kind::Collect => collect_act(formed, head, p, x),
-        Kind::Withdraw => withdraw_act(formed, head, p, x),
-        Kind::Malformed => alone(Answer::Unchanged, head, x),
-        Kind::New => alone(Answer::Unchanged, head, x),
-        Kind::Movers => alone(Answer::Unchanged, head, x),
+    match verb {
+        Verb::Offer => offer_act(formed, head, p, x, list),
+        Verb::Step => step_act(formed, head, p, x, q, y),
+        Verb::Collect => collect_act(formed, head, p, x),
+        Verb::Withdraw => withdraw_act(formed, head, p, x),
+        Verb::Malformed => alone(Answer::Unchanged, head, x),
+        Verb::New => alone(Answer::Unchanged, head, x),
+        Verb::Movers => alone(Answer::Unchanged, head, x),
     }
 }
 

@@ -1,6 +1,6 @@
 // The command of a line.
-use command::Kind;
 use command::Parsed;
+use command::Verb;
 use command::parse;
 use command::plain_command;
 ghost use mathlib.Core.Path.{_≡_};
@@ -19,40 +19,40 @@ pub fn line_command(line: &[u8]) -> Parsed
     ensures { λ r. ⌜ r ≡ asParsed (lineCommand (Line.Ended (now (line .entry)))) ⌝ }
 {
     if MOST_BYTES < line.len() {
-        return plain_command(Kind::Malformed, 0);
+        return plain_command(Verb::Malformed, 0);
     }
     parse(line)
 }
 
 // Whether a command makes a table.
 pub fn is_new(command: Parsed) -> bool
-    ensures { λ r. ⌜ r ≡ isNew (command .kind) ⌝ }
+    ensures { λ r. ⌜ r ≡ isNew (command .verb) ⌝ }
 {
-    let kind = command.kind;
-    match kind {
-        Kind::New => true,
-        Kind::Malformed => false,
-        Kind::Offer => false,
-        Kind::Step => false,
-        Kind::Collect => false,
-        Kind::Withdraw => false,
-        Kind::Movers => false,
+    let verb = command.verb;
+    match verb {
+        Verb::New => true,
+        Verb::Malformed => false,
+        Verb::Offer => false,
+        Verb::Step => false,
+        Verb::Collect => false,
+        Verb::Withdraw => false,
+        Verb::Movers => false,
     }
 }
 
 // Whether a command asks for the movers.
 pub fn is_movers(command: Parsed) -> bool
-    ensures { λ r. ⌜ r ≡ isMovers (command .kind) ⌝ }
+    ensures { λ r. ⌜ r ≡ isMovers (command .verb) ⌝ }
 {
-    let kind = command.kind;
-    match kind {
-        Kind::Movers => true,
-        Kind::New => false,
-        Kind::Malformed => false,
-        Kind::Offer => false,
-        Kind::Step => false,
-        Kind::Collect => false,
-        Kind::Withdraw => false,
+    let verb = command.verb;
+    match verb {
+        Verb::Movers => true,
+        Verb::New => false,
+        Verb::Malformed => false,
+        Verb::Offer => false,
+        Verb::Step => false,
+        Verb::Collect => false,
+        Verb::Withdraw => false,
     }
 }
 
@@ -63,5 +63,5 @@ pub fn heard(made: bool, command: Parsed) -> Parsed
     if made | is_new(command) {
         return command;
     }
-    plain_command(Kind::Malformed, 0)
+    plain_command(Verb::Malformed, 0)
 }

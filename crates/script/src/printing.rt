@@ -2,8 +2,8 @@
 use alternative::Found;
 use alternative::Message;
 use alternative::bits_of;
-use command::Kind;
 use command::Parsed;
+use command::Verb;
 use process::Place;
 use rendezvous::Answer;
 use text::Text;
@@ -93,19 +93,19 @@ fn answer_line(command: Text, answer: Answer) -> Text
     answer_text(command, answer).byte(b'\n')
 }
 
-// The line of a command of any kind. A malformed one has no answer.
+// The line of a command with any verb. A malformed one has no answer.
 pub fn printed_line(command: Parsed, answer: Answer) -> Text
-    ensures { λ r. ⌜ shown r ≡ lineText (command .kind) (command .number) answer ⌝ }
+    ensures { λ r. ⌜ shown r ≡ lineText (command .verb) (command .number) answer ⌝ }
 {
-    let kind = command.kind;
+    let verb = command.verb;
     let number = command.number;
-    match kind {
-        Kind::Malformed => malformed_line(),
-        Kind::New => answer_line(command_text(b'n', number), answer),
-        Kind::Offer => answer_line(command_text(b'o', number), answer),
-        Kind::Step => answer_line(command_text(b's', number), answer),
-        Kind::Collect => answer_line(command_text(b'c', number), answer),
-        Kind::Withdraw => answer_line(command_text(b'w', number), answer),
-        Kind::Movers => answer_line(Text::empty().byte(b'm'), answer),
+    match verb {
+        Verb::Malformed => malformed_line(),
+        Verb::New => answer_line(command_text(b'n', number), answer),
+        Verb::Offer => answer_line(command_text(b'o', number), answer),
+        Verb::Step => answer_line(command_text(b's', number), answer),
+        Verb::Collect => answer_line(command_text(b'c', number), answer),
+        Verb::Withdraw => answer_line(command_text(b'w', number), answer),
+        Verb::Movers => answer_line(Text::empty().byte(b'm'), answer),
     }
 }

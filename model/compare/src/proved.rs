@@ -1,7 +1,7 @@
 //! The proved library, through the bytes of its tables and answers.
 
 use crate::library::{Library, Reply};
-use crate::rendezvous::{self, word, ANSWER_BYTES, ANSWER_FIRST, ANSWER_KIND};
+use crate::rendezvous::{self, word, ANSWER_BYTES, ANSWER_FIRST, ANSWER_VARIANT};
 use crate::rendezvous::{ANSWER_MESSAGE, ANSWER_SECOND, ANSWER_WORD};
 use crate::rendezvous::{COLLECTED, MADE, MOVED, OFFERED, REFUSED, RUNNABLE};
 use crate::rendezvous::{TOO_LATE, UNCHANGED, WITHDRAWN};
@@ -75,7 +75,7 @@ fn read(answer: &[u8; ANSWER_BYTES]) -> Said {
     let (first, second) = (answer[ANSWER_FIRST], answer[ANSWER_SECOND]);
     let message = message_of(&answer[ANSWER_MESSAGE..ANSWER_WORD]);
     let word = word(&answer[ANSWER_WORD..]);
-    Said::Given(match answer[ANSWER_KIND] {
+    Said::Given(match answer[ANSWER_VARIANT] {
         MADE => return Said::Made,
         OFFERED => Given::Ticket(Ticket(word)),
         MOVED => Given::Place(Some(place(char::from(first), usize::from(second)))),
@@ -95,7 +95,7 @@ fn read(answer: &[u8; ANSWER_BYTES]) -> Said {
 
 /// True if a byte is not 0 where an answer of its kind says nothing.
 fn has_stray(answer: &[u8; ANSWER_BYTES]) -> bool {
-    let used = used(answer[ANSWER_KIND]);
+    let used = used(answer[ANSWER_VARIANT]);
     let mut unused = (ANSWER_FIRST..ANSWER_BYTES).filter(|at| !used.contains(at));
     unused.any(|at| answer[at] != 0)
 }
@@ -131,7 +131,7 @@ mod tests {
     fn answer(start: [u8; 3], message: &[u8], word: [u8; WORD_BYTES]) -> [u8; ANSWER_BYTES] {
         let mut bytes = [0; ANSWER_BYTES];
         let [kind, first, second] = start;
-        bytes[ANSWER_KIND] = kind;
+        bytes[ANSWER_VARIANT] = kind;
         bytes[ANSWER_FIRST] = first;
         bytes[ANSWER_SECOND] = second;
         bytes[ANSWER_MESSAGE..][..message.len()].copy_from_slice(message);

@@ -83,7 +83,7 @@ mod tests {
     use super::*;
     use crate::rendezvous::{receives, sends};
     use crate::rendezvous::{GUARD_BYTES, GUARD_MESSAGE, HEAD_BYTES, HEAD_COUNT};
-    use crate::rendezvous::{HEAD_NEXT, MESSAGE_BYTES, MESSAGE_KIND, RECORD_ACCEPTING};
+    use crate::rendezvous::{HEAD_NEXT, MESSAGE_BYTES, MESSAGE_VARIANT, RECORD_ACCEPTING};
     use crate::rendezvous::{LIMIT, NOTHING, READING, WHOLE};
     use crate::rendezvous::{RECORD_BYTES, RECORD_COUNTS, RECORD_INDEX, RECORD_KEPT};
     use crate::rendezvous::{RECORD_OUTCOME, RECORD_OWN, RECORD_PLACE, RECORD_POSTED};
@@ -156,7 +156,7 @@ mod tests {
         ] {
             let mut bytes = Vec::new();
             put_message(&mut bytes, message);
-            assert_eq!(bytes[MESSAGE_KIND], kind);
+            assert_eq!(bytes[MESSAGE_VARIANT], kind);
         }
     }
 }

@@ -13,7 +13,7 @@ returns c =
     let m = w .before .before .before .before .before in
     let n = m .before .before in
     let a = n .before .before .before .args in
-    let parts = answerParts (a .kind) (a .a) (a .b) (a .m) (a .word) in
+    let parts = answerParts (a .variant) (a .a) (a .b) (a .m) (a .word) in
     let message = message-length (a .m) in
     rw (c .before .put-bytes3 .ensures, w .word-bytes .ensures, w .before .before .put-bytes2 .ensures, m .message-bytes .ensures, n .put-bytes .ensures)
     (rw message at (laid-whole parts (replicate answerLength 0) (rw (message, word-length (a .word)))))

@@ -77,7 +77,7 @@ carriedOut c =
     let act = c .before .line-act .result in
     record { answer = act .answer; table = record { head = act .head; processes = set (c .if3 .table .processes) (atCommand c .heard .result .number % mostProcesses) (act .own) } }
 
-called : (c : tie.Joined3 Inv-loop2 μ-loop2 Inv-loop μ-loop) → let p = atCommand c .heard .result in carriedOut c ≡ calledBy (inTurn (atCommand c) .before .loop .table) (p .kind) (p .number) (p .list)
+called : (c : tie.Joined3 Inv-loop2 μ-loop2 Inv-loop μ-loop) → let p = atCommand c .heard .result in carriedOut c ≡ calledBy (inTurn (atCommand c) .before .loop .table) (p .verb) (p .number) (p .list)
 called c =
     let l = c .before .before .before .before .before .before .before .before .before in
     let formed = form-end _ (l .loop2 .k) _ _ (omega arith) (l .loop2 .inv .1) (c .before .before .form-end .ensures) in
@@ -86,7 +86,7 @@ called c =
 
 -- .. and then what is about the whole table
 has : (c : tie.Joined4 Inv-loop2 μ-loop2 Inv-loop μ-loop) → let h = atCommand (atAct (c .before)) in let p = h .heard .result in
-    let l = inTurn h .before .loop in Has (l .made) (l .table) (p .kind) (p .number) (p .list) (c .if4 .made) (record { answer = c .if4 .answer; table = c .if4 .table })
+    let l = inTurn h .before .loop in Has (l .made) (l .table) (p .verb) (p .number) (p .list) (c .if4 .made) (record { answer = c .if4 .answer; table = c .if4 .table })
 has c =
     let new = c .before .is-new .ensures in
     let is = called (atAct (c .before)) in
