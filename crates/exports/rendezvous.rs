@@ -2,7 +2,8 @@
 //! script program, on lent bytes. A program takes this file as `mod rendezvous;` and links
 //! libexports.a; nothing here needs more than `core`. Each function passes its arguments on to the
 //! library's, which is proved for all of them; what it gives is defined in crates/wire/specs and
-//! crates/exports/specs. `word`, `receives` and `sends`, which only lay bytes out, are Rust.
+//! crates/exports/specs. `word`, `receives`, `sends` and `of_kind`, which only lay
+//! bytes out, are Rust.
 //!
 //! docs/BYTES.md has the bytes of a table, a guard, an answer and a session.
 //!
@@ -36,8 +37,9 @@ pub const MESSAGE_BYTES: usize = MESSAGE_SECOND + WORD_BYTES;
 
 pub const GUARD_ENABLED: usize = 0;
 pub const GUARD_PARTNER: usize = 1;
-pub const GUARD_SENDS: usize = 2;
-pub const GUARD_MESSAGE: usize = 3;
+pub const GUARD_KIND: usize = 2;
+pub const GUARD_SENDS: usize = 3;
+pub const GUARD_MESSAGE: usize = 4;
 pub const GUARD_BYTES: usize = GUARD_MESSAGE + MESSAGE_BYTES;
 pub const LIST_BYTES: usize = GUARDS * GUARD_BYTES;
 
@@ -208,7 +210,7 @@ pub fn word(bytes: &[u8]) -> u32 {
     u32::from_le_bytes([bytes[0], bytes[1], bytes[2], bytes[3]])
 }
 
-/// A guard that receives.
+/// A guard that receives. Its kind is 0.
 pub fn receives(enabled: bool, partner: u8) -> [u8; GUARD_BYTES] {
     let mut guard = [0; GUARD_BYTES];
     guard[GUARD_ENABLED] = enabled as u8;
@@ -217,14 +219,26 @@ pub fn receives(enabled: bool, partner: u8) -> [u8; GUARD_BYTES] {
 }
 
 /// A guard that sends a message of a variant: a whole number or the bits of a reading in `first`, the
-/// bits of a limit's low and high in both.
-pub fn sends(enabled: bool, partner: u8, variant: u8, first: u32, second: u32) -> [u8; GUARD_BYTES] {
+/// bits of a limit's low and high in both. Its kind is 0.
+pub fn sends(
+    enabled: bool,
+    partner: u8,
+    variant: u8,
+    first: u32,
+    second: u32,
+) -> [u8; GUARD_BYTES] {
     let mut guard = receives(enabled, partner);
     guard[GUARD_SENDS] = 1;
     let message = &mut guard[GUARD_MESSAGE..];
     message[MESSAGE_VARIANT] = variant;
     message[MESSAGE_FIRST..MESSAGE_SECOND].copy_from_slice(&first.to_le_bytes());
     message[MESSAGE_SECOND..MESSAGE_BYTES].copy_from_slice(&second.to_le_bytes());
+    guard
+}
+
+/// The guard with a kind: it matches only guards of the same kind.
+pub fn of_kind(mut guard: [u8; GUARD_BYTES], kind: u8) -> [u8; GUARD_BYTES] {
+    guard[GUARD_KIND] = kind;
     guard
 }
 

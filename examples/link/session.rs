@@ -5,7 +5,7 @@
 mod rendezvous;
 
 use rendezvous::{collect, create, offer, receives, sends, step, word};
-use rendezvous::{ANSWER_BYTES, ANSWER_VARIANT, ANSWER_MESSAGE, ANSWER_SECOND, TABLE_BYTES};
+use rendezvous::{ANSWER_BYTES, ANSWER_MESSAGE, ANSWER_SECOND, ANSWER_VARIANT, TABLE_BYTES};
 use rendezvous::{COLLECTED, MESSAGE_FIRST, READING};
 
 fn main() {

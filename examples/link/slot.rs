@@ -17,7 +17,7 @@
 mod rendezvous;
 
 use rendezvous::{collect, create, offer, receives, sends, step, withdraw, word};
-use rendezvous::{ANSWER_BYTES, ANSWER_VARIANT, ANSWER_MESSAGE, HEAD_NEXT, TABLE_BYTES};
+use rendezvous::{ANSWER_BYTES, ANSWER_MESSAGE, ANSWER_VARIANT, HEAD_NEXT, TABLE_BYTES};
 use rendezvous::{COLLECTED, MESSAGE_FIRST, MOVED, OFFERED, READING, TOO_LATE, WITHDRAWN};
 use std::sync::{Condvar, Mutex};
 use std::thread;

@@ -21,7 +21,7 @@
 mod rendezvous;
 
 use rendezvous::{collect, create, offer, receives, sends, step, word};
-use rendezvous::{ANSWER_BYTES, ANSWER_FIRST, ANSWER_VARIANT, ANSWER_MESSAGE, TABLE_BYTES};
+use rendezvous::{ANSWER_BYTES, ANSWER_FIRST, ANSWER_MESSAGE, ANSWER_VARIANT, TABLE_BYTES};
 use rendezvous::{COLLECTED, LIMIT, MESSAGE_FIRST, MESSAGE_SECOND, MOVED, OFFERED, READING};
 use std::sync::{Condvar, Mutex};
 use std::thread;
