@@ -12,6 +12,7 @@ pub enum Action {
 pub struct Guard {
     pub enabled: bool,
     pub partner: usize,
+    pub kind: u8,
     pub action: Action,
 }
 
@@ -31,7 +32,12 @@ impl Guard {
 
 /// Does guard `a` of party `p` match guard `b` of party `q`?
 pub fn guards_match(p: usize, a: &Guard, q: usize, b: &Guard) -> bool {
-    a.enabled && b.enabled && a.partner == q && b.partner == p && a.sends() != b.sends()
+    a.enabled
+        && b.enabled
+        && a.partner == q
+        && b.partner == p
+        && a.sends() != b.sends()
+        && a.kind == b.kind
 }
 
 /// Does a guard of party `p`'s list match a guard of party `q`'s list?

@@ -42,9 +42,10 @@ pub fn read(line: &[u8]) -> Option<Command> {
 }
 
 fn guard(field: &[u8]) -> Option<Guard> {
-    let (enabled, rest) = match field.strip_prefix(b"-") {
+    let (text, kind) = split_kind(field)?;
+    let (enabled, rest) = match text.strip_prefix(b"-") {
         Some(rest) => (false, rest),
-        None => (true, field),
+        None => (true, text),
     };
     let end = rest.iter().position(|byte| !byte.is_ascii_digit())?;
     let partner = small(&rest[..end])?;
@@ -56,8 +57,18 @@ fn guard(field: &[u8]) -> Option<Guard> {
     Some(Guard {
         enabled,
         partner,
+        kind,
         action,
     })
+}
+
+/// Parts a guard from the kind after it, which is 0 if left out. Nothing else
+/// in a guard has a colon, so the first one has to begin the kind.
+fn split_kind(field: &[u8]) -> Option<(&[u8], u8)> {
+    match field.iter().position(|&byte| byte == b':') {
+        Some(colon) => Some((&field[..colon], byte(&field[colon + 1..])?)),
+        None => Some((field, 0)),
+    }
 }
 
 fn message(text: &[u8]) -> Option<Message> {
@@ -73,10 +84,14 @@ fn message(text: &[u8]) -> Option<Message> {
     }
 }
 
-/// A party or a party count: 0 to 255.
+/// A party or a party count.
 fn small(field: &[u8]) -> Option<usize> {
-    let value = decimal(field)?;
-    usize::try_from(value).ok().filter(|&value| value <= 255)
+    byte(field).map(usize::from)
+}
+
+/// 0 to 255: the form that parties, party counts and kinds share.
+fn byte(field: &[u8]) -> Option<u8> {
+    u8::try_from(decimal(field)?).ok()
 }
 
 /// A whole number of 32 bits, signed.

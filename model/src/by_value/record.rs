@@ -11,6 +11,7 @@ pub const MOST_GUARDS: usize = 8;
 pub struct Guard {
     pub enabled: bool,
     pub partner: u8,
+    pub kind: u8,
     pub action: Action,
 }
 
@@ -59,6 +60,7 @@ impl Guard {
     pub const BLANK: Guard = Guard {
         enabled: false,
         partner: 0,
+        kind: 0,
         action: Action::Receive,
     };
 
@@ -81,6 +83,7 @@ impl Guard {
             && self.partner == q
             && other.partner == p
             && self.sends() != other.sends()
+            && self.kind == other.kind
     }
 }
 

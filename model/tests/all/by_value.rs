@@ -15,6 +15,7 @@ fn guard(guard: &Guard) -> by_value::Guard {
     by_value::Guard {
         enabled: guard.enabled,
         partner: byte(guard.partner),
+        kind: guard.kind,
         action: guard.action,
     }
 }
@@ -157,7 +158,7 @@ fn compare_desks(seed: u64, wild: usize, desks: usize) {
 /// Puts one thing of a party just past what refusal 7 allows.
 fn damage(draw: &mut Draw, desk: &mut Desk) {
     let number = draw.random.below(desk.n);
-    let kind = draw.random.below(8);
+    let fault = draw.random.below(8);
     let (n, partner) = (desk.n, desk.parties[number].guards[0].partner);
     let kept = desk.parties[partner].posted.len();
     let party = &mut desk.parties[number];
@@ -165,7 +166,7 @@ fn damage(draw: &mut Draw, desk: &mut Desk) {
         index: party.guards.len(),
         message: model::Message::Nothing,
     };
-    match kind {
+    match fault {
         0 => party.place = Place::Scanning(past.index),
         1 => party.place = Place::Trying(past.index),
         2 => party.place = Place::Met(past),

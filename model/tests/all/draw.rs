@@ -62,6 +62,8 @@ impl Draw {
         Guard {
             enabled,
             partner,
+            // Few different kinds, so that many are equal.
+            kind: [0, 0, 1, 255][self.random.below(4)],
             action,
         }
     }

@@ -1,5 +1,6 @@
 //! All tests of the model in one program. Expected values come from document 01
-//! and request 1 of document 02, or from the reasoning written beside them.
+//! and requests 1 and 2 of document 02, or from the reasoning written beside
+//! them.
 
 mod book;
 mod by_value;
@@ -7,6 +8,7 @@ mod damaged;
 mod draw;
 mod edges;
 mod form;
+mod kinds;
 mod orders;
 mod program;
 mod refusals;

@@ -1,6 +1,6 @@
 //! Every order of calls, for a few small sets of offers and withdrawals.
 
-use crate::tools::{fresh, receive, send};
+use crate::tools::{fresh, of_kind, receive, send};
 use model::{Book, Call, Desk, Guard, Message, Moment, Ticket, Told};
 use std::collections::BTreeSet;
 
@@ -119,6 +119,24 @@ fn two_that_match_have_met_at_every_end() {
 fn two_that_do_not_match_never_meet() {
     let plans = [vec![offer(0, &[sends(1)])], vec![offer(1, &[sends(0)])]];
     assert_eq!(ends(&plans), BTreeSet::from([(0, 0, 2)]));
+}
+
+#[test]
+fn two_that_differ_in_kind_alone_never_meet() {
+    let plans = [
+        vec![offer(0, &[of_kind(1, sends(1))])],
+        vec![offer(1, &[of_kind(2, receive(0))])],
+    ];
+    assert_eq!(ends(&plans), BTreeSet::from([(0, 0, 2)]));
+}
+
+#[test]
+fn two_with_one_kind_in_common_have_met_at_every_end() {
+    let plans = [
+        vec![offer(0, &[of_kind(1, sends(1)), of_kind(2, sends(1))])],
+        vec![offer(1, &[of_kind(2, receive(0)), of_kind(3, receive(0))])],
+    ];
+    assert_eq!(ends(&plans), BTreeSet::from([(1, 0, 0)]));
 }
 
 #[test]

@@ -38,9 +38,9 @@ fn wrong_lists() -> Vec<(Vec<Guard>, Refusal)> {
     let bad = send(1, nan());
     let lists =
         |refusal, lists: Vec<Vec<Guard>>| lists.into_iter().map(move |list| (list, refusal));
-    // Nine of any kind are too many before they are anything else.
-    let kinds = [good, receive(0), receive(3), bad, disabled(good)];
-    let mut counts: Vec<Vec<Guard>> = kinds.iter().map(|&kind| vec![kind; 9]).collect();
+    // Nine guards, whichever, are too many before they are anything else.
+    let any = [good, receive(0), receive(3), bad, disabled(good)];
+    let mut counts: Vec<Vec<Guard>> = any.iter().map(|&guard| vec![guard; 9]).collect();
     counts.push(vec![]);
     let none_enabled = vec![vec![disabled(good)], vec![disabled(good); 8]];
     lists(Refusal::GuardCount, counts)

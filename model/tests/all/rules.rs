@@ -1,6 +1,6 @@
 //! The fifteen step rules, each with all that it changes and all it leaves.
 
-use crate::tools::{disabled, fresh, indexed, receive, send};
+use crate::tools::{disabled, fresh, indexed, of_kind, receive, send};
 use model::{Desk, Guard, Message, Place, Refusal, Ticket};
 
 const SEVEN: Message = Message::Whole(7);
@@ -214,9 +214,10 @@ fn rule_9_when_both_receive_or_both_send() {
 
 #[test]
 fn rule_9_takes_the_kept_guard_as_it_is() {
-    // Disabled or naming another party: rule 9 asks for neither.
+    // Disabled, naming another party, of another kind: rule 9 asks for none.
     let mut desk = desk_with_party_1_at(Place::Committed { own: 0, kept: 0 });
-    for guard in [disabled(send(1, SEVEN)), send(2, SEVEN)] {
+    let sends = send(1, SEVEN);
+    for guard in [disabled(sends), send(2, SEVEN), of_kind(1, sends)] {
         desk.parties[0].posted[0] = guard;
         check(&desk, "M", |d| {
             d.parties[0].signal = Some(indexed(0, Message::Nothing));

@@ -57,7 +57,8 @@ const MALFORMED_COMMANDS: &str = "\
     n +2|n 2.|n a|n 18446744073709551618|n 4294967298|n 0x2|nn 2|q 0|x 8|=|o|o |o 0 | o 0 1?|\
     o  0 1?|o 0  1?|o 0 1? |o 00 1?|o 256 1?|o -0 1?|o 1?|O 0 1?|s|s |s 0 |s 0 0|s 00|\
     s 01|s 256|s -1|S 0|s0|c|c 0 0|c 00|c 999|C 0|m |m 0| m|M|mm|n 2n|s ?|w|w |w 0 |w 0 1|\
-    w  0| w 0|w 00|w 01|w 256|w 999|w -1|w -0|w +0|W 0|w0|w7|w-1|ww 0|w ?|w 1!w7|w ok";
+    w  0| w 0|w 00|w 01|w 256|w 999|w -1|w -0|w +0|W 0|w0|w7|w-1|ww 0|w ?|w 1!w7|w ok|\
+    n 2:0|o:0 0 1?|o 0:0 1?|o 0 :0|o 0 1? :0|o 0 1?: 0|s 0:0|s:0 0|c 0:0|w 0:0|m:0|:0|:";
 
 /// Parted by bars.
 const MALFORMED_GUARDS: &str = "\
@@ -68,6 +69,24 @@ const MALFORMED_GUARDS: &str = "\
     1!R40970a3d|1!r-0970a3d|1!r4.72|1!r0x40970a|1!r 40970a3|1!l|1!l40970a3d|\
     1!l40970a3d40970a3|1!l40970a3d40970a3d0|1!l40970a3d40970a3D|1!l40970A3d40970a3d|\
     1!L40970a3d40970a3d|1!l40970a3d 40970a3d|1!l40970a3d,40970a3d";
+
+/// Parted by bars: kinds out of form, and kinds at another place than the end.
+const MALFORMED_KINDS: &str = "\
+    1?:|1?:00|1?:01|1?:007|1?:256|1?:257|1?:999|1?:1000|1?:4294967296|\
+    1?:18446744073709551616|1?:-1|1?:-0|1?:+1|1?:a|1?:0x1|1?:1.|1?:w1|1?:1?|1?:!0|\
+    1?:1:2|1?:0:0|1?::1|1?:1:|1?3|1?;3|1?,3|1?.3|1:3?|1:3|1:?|1:|:|:3|:3?|:3:1?|:1?|?:3|\
+    1!:3w5|1!:3|1!:0|1!:|1:3!w5|1!w:3|1!w5:|1!w5:00|1!w5:01|1!w5:256|1!w5:-1|1!w5:1:2|\
+    1!w5:w3|1!w5:3w5|1!w:35|1!w5:3?|1!0:|1!0:00|1!0:256|1!0:3!0|1!00:3|1!w-:3|1!w05:3|\
+    1!r40970a3d:|1!r40970a3d:00|1!r40970a3d:256|1!r40970a3:1|1!r40970a3:d|1!r:340970a3d|\
+    1!l40970a3d40970a3d:|1!l40970a3d40970a3d:256|1!l40970a3d:40970a3d|\
+    1!l40970a3d:140970a3d:1|-1?:|-1?:00|-1?:256|-1?:1:2|-1:3?|-:3|:3-1?|-1!w5:|-1!w5:00|\
+    -1!w5:256|-1!:3w5|-1!w5:-3";
+
+/// Parted by bars.
+const WELL_FORMED_KINDS: &str = "\
+    1?:0|1?:1|1?:9|1?:10|1?:99|1?:100|1?:199|1?:249|1?:255|1!0:0|1!0:255|1!w5:0|1!w-5:10|\
+    1!w2147483647:255|1!w-2147483648:255|1!r40970a3d:7|1!l40970a3d40970a3d:200|-1?:0|-1?:3|\
+    -1?:255|-1!0:0|-1!w5:255|-1!r40970a3d:1|-1!l40970a3d40970a3d:1";
 
 #[test]
 fn malformed_commands() {
@@ -81,13 +100,35 @@ fn malformed_commands() {
 
 #[test]
 fn malformed_guards() {
-    for guard in MALFORMED_GUARDS.split('|') {
+    for guard in [MALFORMED_GUARDS, MALFORMED_KINDS].join("|").split('|') {
         check_malformed(format!("o 0 {guard}").as_bytes());
         // Late in a line it still comes before every other refusal: guard 0
         // names the party itself, and party 9 is none.
         check_malformed(format!("o 0 0? {guard}").as_bytes());
         check_malformed(format!("o 9 1!r7fc00000 1? {guard}").as_bytes());
     }
+}
+
+#[test]
+fn well_formed_kinds() {
+    for guard in WELL_FORMED_KINDS.split('|') {
+        // The last guard is enabled, whatever the others are.
+        let line = format!("o 0 {guard} 1? {guard} 1?:5");
+        check_script(&[("n 2", "n 2"), (&line, "o 0 t0")]);
+    }
+}
+
+#[test]
+fn line_length_with_kinds() {
+    // 3 bytes, 7 guards of 25 with their spaces and one of 20 make 198.
+    let guard = "1!l40970a3d40970a3d";
+    let line = format!("o 0{} {guard}", format!(" -{guard}:255").repeat(7));
+    assert_eq!(line.len(), 198);
+    check_script(&[
+        ("n 2", "n 2"),
+        (&format!("{line}:99"), "x 8"),
+        (&format!("{line}:9"), "o 0 t0"),
+    ]);
 }
 
 #[test]

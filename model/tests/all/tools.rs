@@ -37,6 +37,7 @@ pub fn receive(partner: usize) -> Guard {
     Guard {
         enabled: true,
         partner,
+        kind: 0,
         action: Action::Receive,
     }
 }
@@ -45,6 +46,7 @@ pub fn send(partner: usize, message: Message) -> Guard {
     Guard {
         enabled: true,
         partner,
+        kind: 0,
         action: Action::Send(message),
     }
 }
@@ -54,6 +56,10 @@ pub fn disabled(guard: Guard) -> Guard {
         enabled: false,
         ..guard
     }
+}
+
+pub fn of_kind(kind: u8, guard: Guard) -> Guard {
+    Guard { kind, ..guard }
 }
 
 pub fn indexed(index: usize, message: Message) -> IndexedMessage {
