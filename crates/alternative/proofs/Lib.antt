@@ -1,4 +1,5 @@
 pub mod Nan
+pub mod OneKind
 pub mod Rest
 pub mod Slots
 pub mod Tests

@@ -1,4 +1,4 @@
--- To be believed. Document 01, "The desk and its tasks" and rule 7: when guards and offers match, and the two searches in a list of guards.
+-- To be believed. Document 01, "The desk and its tasks" and rule 7, and CR 2 of document 02: when guards and offers match, and the two searches in a list of guards.
 use Rattle.alternative.specs.Types.{ℕ, suc, Bool, true, false, _&&_, _||_, cond, List, [], _∷_, _++_, length, take, drop, replicate, eqb, Action, Guard}
 use Rattle.alternative.specs.Types.{GuardList, Found}
 
@@ -8,7 +8,11 @@ mostGuards = 8
 
 -- what stands in a slot of a guard array past the list's end
 abbrev pub blank : Guard
-blank = record { enabled = false; partner = 0; action = Action.Receive }
+blank = record { enabled = false; partner = 0; kind = 0; action = Action.Receive }
+
+-- "Each guard gets a kind, 0 to 255" (CR 2): the guard g with kind k
+abbrev pub ofKind : ℕ → Guard → Guard
+ofKind k g = record { enabled = g .enabled; partner = g .partner; kind = k; action = g .action }
 
 -- "one sends while the other receives"
 abbrev pub opposite : Action → Action → Bool
@@ -17,9 +21,10 @@ opposite Action.Receive (Action.Send m) = true
 opposite (Action.Send m) Action.Receive = true
 opposite (Action.Send m) (Action.Send k) = false
 
--- "Two guards match if both are enabled, each names the other's party, and one sends while the other receives.": g is a guard of p, h one of q
+-- "Two guards match if both are enabled, each names the other's party, and one sends while the other receives.": g is a guard of p, h one of q. And CR 2: "two guards match only
+-- if their kinds are equal as well."
 unfoldable pub guardsMatch : ℕ → Guard → ℕ → Guard → Bool
-guardsMatch p g q h = g .enabled && (h .enabled && (eqb (g .partner) q && (eqb (h .partner) p && opposite (g .action) (h .action))))
+guardsMatch p g q h = g .enabled && (h .enabled && (eqb (g .partner) q && (eqb (h .partner) p && (opposite (g .action) (h .action) && eqb (g .kind) (h .kind)))))
 
 -- a guard of the list passes the test
 unfoldable pub anyGuard : (Guard → Bool) → List Guard → Bool

@@ -1,3 +1,4 @@
 pub mod Types
 pub mod Guards
+pub mod Kinds
 pub mod Exchange

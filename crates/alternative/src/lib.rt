@@ -1,6 +1,7 @@
 // Messages and guards of an alternative: when two guards match, the searches in a list of guards, and what a rendezvous hands over.
 ghost use mathlib.Core.Path.{_≡_};
-ghost use Rattle.alternative.specs.Guards.{blank};
+ghost use Rattle.alternative.specs.Guards.{blank, ofKind};
+ghost use Rattle.alternative.specs.Kinds.{KindsRefine};
 
 mod exchange;
 mod floats;
@@ -31,10 +32,11 @@ pub enum Action {
     Send(Message),
 }
 
-// Document 01's guard. `partner` is the number of the process that it names.
+// Document 01's guard, with the kind that document 02 gives it. `partner` is the number of the process that it names.
 pub struct Guard {
     pub enabled: bool,
     pub partner: u8,
+    pub kind: u8,
     pub action: Action,
 }
 
@@ -51,9 +53,28 @@ pub fn blank_guard() -> Guard
     Guard {
         enabled: false,
         partner: 0,
+        kind: 0,
         action: Action::Receive,
     }
 }
+
+// The guard with a kind.
+pub fn of_kind(guard: Guard, kind: u8) -> Guard
+    ensures { λ r. ⌜ r ≡ ofKind kind guard ⌝ }
+{
+    let action = guard.action;
+    Guard {
+        enabled: guard.enabled,
+        partner: guard.partner,
+        kind: kind,
+        action: action,
+    }
+}
+
+// Carries that guards match only within a kind, and there as they do without kinds.
+pub fn kinds_refine()
+    ensures { λ _. ⌜ KindsRefine ⌝ }
+{}
 
 // What a search in a list finds: the index of a guard, or none.
 pub enum Found {

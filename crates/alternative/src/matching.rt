@@ -28,7 +28,8 @@ fn guards_match(p: u8, g: Guard, q: u8, h: Guard) -> bool
 {
     let a = g.action;
     let b = h.action;
-    g.enabled & (h.enabled & ((g.partner == q) & ((h.partner == p) & are_opposite(a, b))))
+    let suit = are_opposite(a, b) & (g.kind == h.kind);
+    g.enabled & (h.enabled & ((g.partner == q) & ((h.partner == p) & suit)))
 }
 
 // The first guard in the list of process q, `count` guards, that matches guard g of process p.

@@ -1,5 +1,6 @@
 -- The guards of an offer, field by field: the guards so far stand before those in the rest of the line.
 use Prim.Native.Nat.{ℕ, _+_, _-_, _≤_, _<_}
+use Prim.Native.Char.{code}
 use mathlib.Core.Path.{_≡_, refl, _∙_, ap}
 use mathlib.Core.List.{List, [], _∷_, _++_, append-assoc, append-nil}
 use mathlib.Core.Option.{Option, some, none}
@@ -7,8 +8,8 @@ use native.Mathlib.Omega.{arith}
 use lib.ListN.{length, take, drop, length-drop}
 use Rattle.text.specs.Types.{_>>=_}
 use Rattle.command.specs.Types.{Guard}
-use Rattle.command.specs.Commands.{guardIn, guardsIn}
-use Rattle.command.specs.Private.{notSpace, fieldLength, fieldsAfter}
+use Rattle.command.specs.Commands.{isNot, guardIn, guardsIn}
+use Rattle.command.specs.Private.{fieldLength, fieldsAfter}
 use Rattle.command.proofs.Leading.{leading-most, part-rest}
 use Rattle.command.proofs.Cuts.{next-cut, last-cut}
 
@@ -34,7 +35,7 @@ module _ (s : List ℕ) (i n : ℕ) (h : i < length s) (e : n ≡ fieldLength (t
   next-length = e ∙ ap fieldLength (part-rest (i + 1) s)
 
   pub next-within : i + 1 + n ≤ length s
-  next-within = omega (arith, next-length, leading-most notSpace (drop (i + 1) s), length-drop (i + 1) s)
+  next-within = omega (arith, next-length, leading-most (isNot (code " ")) (drop (i + 1) s), length-drop (i + 1) s)
 
   next-part : take (fieldLength (drop (i + 1) s)) (drop (i + 1) s) ≡ take (i + 1 + n - (i + 1)) (drop (i + 1) s)
   next-part =

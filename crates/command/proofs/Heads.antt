@@ -4,11 +4,12 @@ use Prim.Native.Char.{code}
 use mathlib.Core.Path.{_≡_, refl}
 use mathlib.Core.Bool.{true, false}
 use mathlib.Core.List.{List, [], _∷_}
-use mathlib.Core.Option.{none}
+use mathlib.Core.Option.{some, none}
 use native.Mathlib.Omega.{arith}
 use borrow.Author.Tests.{eq-eqb, ne-eqb}
 use lib.ListN.{length, getD, drop}
-use Rattle.command.specs.Commands.{isEmpty, messageBy, messageIn, actionBy, actionIn, guardFrom, guardIn}
+use Rattle.text.specs.Reading.{byteNumber}
+use Rattle.command.specs.Commands.{isEmpty, messageBy, messageIn, actionBy, actionIn, guardFrom, plainGuardIn, kindIn}
 
 pub empty-of : (s : List ℕ) → length s ≡ 0 → s ≡ []
 empty-of [] e = refl
@@ -41,16 +42,25 @@ unfolding actionIn
 action-by [] h = absurd (h refl)
 action-by (b ∷ bs) h = refl
 
-pub guard-none : (s : List ℕ) → length s ≡ 0 → guardIn s ≡ none
-unfolding guardIn
+pub guard-none : (s : List ℕ) → length s ≡ 0 → plainGuardIn s ≡ none
+unfolding plainGuardIn
 guard-none s e = rw (empty-of s e)
 
-pub guard-disabled : (s : List ℕ) → (length s ≡ 0 → ⊥) → getD s 0 0 ≡ code "-" → guardIn s ≡ guardFrom false (drop 1 s)
-unfolding guardIn
+pub guard-disabled : (s : List ℕ) → (length s ≡ 0 → ⊥) → getD s 0 0 ≡ code "-" → plainGuardIn s ≡ guardFrom false (drop 1 s)
+unfolding plainGuardIn
 guard-disabled [] h e = absurd (h refl)
 guard-disabled (b ∷ bs) h e = rw (eq-eqb b (code "-") e)
 
-pub guard-enabled : (s : List ℕ) → (length s ≡ 0 → ⊥) → (getD s 0 0 ≡ code "-" → ⊥) → guardIn s ≡ guardFrom true s
-unfolding guardIn
+pub guard-enabled : (s : List ℕ) → (length s ≡ 0 → ⊥) → (getD s 0 0 ≡ code "-" → ⊥) → plainGuardIn s ≡ guardFrom true s
+unfolding plainGuardIn
 guard-enabled [] h e = absurd (h refl)
 guard-enabled (b ∷ bs) h e = rw (ne-eqb b (code "-") e)
+
+pub kind-left-out : (s : List ℕ) → length s ≡ 0 → kindIn s ≡ some 0
+unfolding kindIn
+kind-left-out s e = rw (empty-of s e)
+
+pub kind-after : (s : List ℕ) → (length s ≡ 0 → ⊥) → kindIn s ≡ byteNumber (drop 1 s)
+unfolding kindIn
+kind-after [] h = absurd (h refl)
+kind-after (b ∷ bs) h = refl

@@ -1,4 +1,5 @@
 pub mod Leading
+pub mod LeftOut
 pub mod Heads
 pub mod Cuts
 pub mod GuardFields

@@ -1,4 +1,4 @@
--- To be believed. Document 01, "The script program" and "Edges to try", and CR 1 of document 02: what some lines say. The function `line_cases` carries these claims.
+-- To be believed. Document 01, "The script program" and "Edges to try", and CRs 1 and 2 of document 02: what some lines say. The function `line_cases` carries these claims.
 use Prim.Native.Nat.{ℕ}
 use Prim.Native.String.{String}
 use mathlib.Core.Path.{_≡_}
@@ -7,6 +7,7 @@ use mathlib.Core.List.{[], _∷_}
 use mathlib.Core.Option.{Option, some, none}
 use lib.IntN.{negℤ, pos}
 use lib.Ieee.{binary32, ofBits}
+use Rattle.alternative.specs.Guards.{ofKind}
 use Rattle.text.specs.Ascii.{bytes}
 use Rattle.command.specs.Types.{Message, Action, Guard, Offer, Step, Collect, Withdraw, Command, New, Do, Movers}
 use Rattle.command.specs.Commands.{commandOf}
@@ -15,10 +16,13 @@ abbrev says : String → Option Command
 says line = commandOf (bytes line)
 
 abbrev receives : ℕ → Guard
-receives p = record { enabled = true; partner = p; action = Action.Receive }
+receives p = record { enabled = true; partner = p; kind = 0; action = Action.Receive }
 
 abbrev sends : ℕ → Message → Guard
-sends p m = record { enabled = true; partner = p; action = Action.Send m }
+sends p m = record { enabled = true; partner = p; kind = 0; action = Action.Send m }
+
+abbrev disabled : ℕ → Guard
+disabled p = record { enabled = false; partner = p; kind = 0; action = Action.Receive }
 
 pub record LineCases : Type 0 where
   pub commands : (says "n 2" ≡ some (New 2))
@@ -27,11 +31,29 @@ pub record LineCases : Type 0 where
       × (says "o 1 0?" ≡ some (Do (Offer 1 (receives 0 ∷ []))))
       × (says "o 0" ≡ some (Do (Offer 0 [])))
       × (says "o 0 1!w-2147483648 2!0 3!l0000000180000000" ≡ some (Do (Offer 0 (sends 1 (Message.Whole (negℤ (pos 2147483648))) ∷ sends 2 Message.Nothing ∷ sends 3 (Message.Limit (ofBits binary32 1) (ofBits binary32 0x80000000)) ∷ []))))
-      × (says "o 0 -1?" ≡ some (Do (Offer 0 (record { enabled = false; partner = 1; action = Action.Receive } ∷ []))))
+      × (says "o 0 -1?" ≡ some (Do (Offer 0 (disabled 1 ∷ []))))
       × (says "s 0" ≡ some (Do (Step 0)))
       × (says "c 1" ≡ some (Do (Collect 1)))
       × (says "w 0" ≡ some (Do (Withdraw 0)))
       × (says "m" ≡ some Movers)
+  -- "The script writes `:k`, k formed like N, after the guard; left out, the kind is 0"
+  pub kinds : (says "o 1 0?:3" ≡ some (Do (Offer 1 (ofKind 3 (receives 0) ∷ []))))
+      × (says "o 1 0?:0" ≡ some (Do (Offer 1 (receives 0 ∷ []))))
+      × (says "o 1 -0?:255 0!w-7:16 0!0:1 0?" ≡ some (Do (Offer 1 (ofKind 255 (disabled 0) ∷ ofKind 16 (sends 0 (Message.Whole (negℤ (pos 7)))) ∷ ofKind 1 (sends 0 Message.Nothing) ∷ receives 0 ∷ []))))
+      × (says "o 0 1!r40970a3d:10 1!l0000000180000000:128" ≡ some (Do (Offer 0 (ofKind 10 (sends 1 (Message.Reading (ofBits binary32 0x40970a3d))) ∷ ofKind 128 (sends 1 (Message.Limit (ofBits binary32 1) (ofBits binary32 0x80000000))) ∷ []))))
+      × (says "o 1 0?:" ≡ none)
+      × (says "o 1 0?:00" ≡ none)
+      × (says "o 1 0?:01" ≡ none)
+      × (says "o 1 0?:256" ≡ none)
+      × (says "o 1 0?:-1" ≡ none)
+      × (says "o 1 0?:1:2" ≡ none)
+      × (says "o 1 0?:1 " ≡ none)
+      × (says "o 1 0? :1" ≡ none)
+      × (says "o 1 0:1?" ≡ none)
+      × (says "o 1 0!:1w7" ≡ none)
+      × (says "o 1 :1" ≡ none)
+      × (says "o 1:1 0?" ≡ none)
+      × (says "s 1:1" ≡ none)
   pub malformed : (says "n 256" ≡ none)
       × (says "n 02" ≡ none)
       × (says "n" ≡ none)

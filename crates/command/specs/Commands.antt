@@ -1,12 +1,13 @@
--- To be believed. Document 01, "The script program", and CR 1 of document 02: what a line says. `none` where it says no command: the line is malformed.
+-- To be believed. Document 01, "The script program", and CRs 1 and 2 of document 02: what a line says. `none` where it says no command: the line is malformed.
 use Prim.Native.Nat.{ℕ, suc}
 use Prim.Native.Char.{code}
-use mathlib.Core.Bool.{Bool, true, false, cond}
+use mathlib.Core.Bool.{Bool, true, false, not, cond}
 use mathlib.Core.List.{List, [], _∷_}
 use mathlib.Core.Option.{Option, some, none}
 use lib.ListN.{take, drop}
 use lib.Dec.{eqb}
 use lib.Ieee.{binary32, ofBits}
+use Rattle.alternative.specs.Guards.{ofKind}
 use Rattle.text.specs.Types.{_>>=_}
 use Rattle.text.specs.Reading.{isDigit, provided, byteNumber, whole, hexWord}
 use Rattle.command.specs.Types.{Message, Action, Guard, Offer, Step, Collect, Withdraw, Command, New, Do, Movers}
@@ -82,17 +83,37 @@ leading test (b ∷ bs) = cond (test b) (suc (leading test bs)) 0
 abbrev pub digitCount : List ℕ → ℕ
 digitCount bs = leading isDigit bs
 
--- "the partner in the same decimal form, and then" the action
+-- "the partner in the same decimal form, and then" the action. Where no kind is written, "the kind is 0" (CR 2).
 unfoldable pub guardFrom : Bool → List ℕ → Option Guard
 guardFrom enabled bs = do
   partner ← byteNumber (take (digitCount bs) bs)
   action ← actionIn (drop (digitCount bs) bs)
-  some (record { enabled = enabled; partner = partner; action = action })
+  some (record { enabled = enabled; partner = partner; kind = 0; action = action })
 
 -- "A guard is an optional `-` (disabled), the partner .., and then" the action
+unfoldable pub plainGuardIn : List ℕ → Option Guard
+plainGuardIn [] = none
+plainGuardIn (b ∷ bs) = cond (eqb b (code "-")) (guardFrom false bs) (guardFrom true (b ∷ bs))
+
+-- any byte but c
+abbrev pub isNot : ℕ → ℕ → Bool
+isNot c b = not (eqb b c)
+
+-- how many bytes stand before the first c, or before the end
+abbrev pub before : ℕ → List ℕ → ℕ
+before c bs = leading (isNot c) bs
+
+-- CR 2: "The script writes `:k`, k formed like N, after the guard; left out, the kind is 0": what stands after the guard, from the `:` on
+unfoldable pub kindIn : List ℕ → Option ℕ
+kindIn [] = some 0
+kindIn (colon ∷ k) = byteNumber k
+
+-- a guard, and its kind after it: the field is cut before its first `:`
 unfoldable pub guardIn : List ℕ → Option Guard
-guardIn [] = none
-guardIn (b ∷ bs) = cond (eqb b (code "-")) (guardFrom false bs) (guardFrom true (b ∷ bs))
+guardIn bs = do
+  guard ← plainGuardIn (take (before (code ":") bs) bs)
+  kind ← kindIn (drop (before (code ":") bs) bs)
+  some (ofKind kind guard)
 
 -- "G..": "no guards or more", one in each field
 unfoldable pub guardsIn : List (List ℕ) → Option (List Guard)

@@ -3,3 +3,4 @@ pub mod Commands
 pub mod InCode
 pub mod Private
 pub mod Cases
+pub mod KindLeftOut

@@ -1,15 +1,13 @@
 -- Not to be believed: what inner contracts cite; no contract of a public function does.
 use Prim.Native.Nat.{ℕ}
 use Prim.Native.Char.{code}
-use mathlib.Core.Bool.{Bool, not}
 use mathlib.Core.List.{List, [], _∷_, _++_}
 use mathlib.Core.Path.{_≡_}
 use mathlib.Core.Option.{Option, some, none}
-use lib.Dec.{eqb}
 use Rattle.alternative.specs.Guards.{lent}
 use Rattle.text.specs.Types.{_>>=_}
 use Rattle.command.specs.Types.{Message, Action, Guard, GuardList, Offer, Do, Verb, Parsed, ReadMessage, ReadAction, ReadGuard}
-use Rattle.command.specs.Commands.{fields, leading}
+use Rattle.command.specs.Commands.{fields, before}
 use Rattle.command.specs.InCode.{plain, asParsed}
 
 -- a command of one number
@@ -36,12 +34,9 @@ abbrev pub guardRead : ReadGuard → Option Guard
 guardRead ReadGuard.Malformed = none
 guardRead (ReadGuard.Value g) = some g
 
-abbrev pub notSpace : ℕ → Bool
-notSpace b = not (eqb b (code " "))
-
 -- how many bytes stand before the first space
 abbrev pub fieldLength : List ℕ → ℕ
-fieldLength bs = leading notSpace bs
+fieldLength bs = before (code " ") bs
 
 -- the fields after a field's end: none at the end of the line, else those after the space
 unfoldable pub fieldsAfter : List ℕ → List (List ℕ)

@@ -1,7 +1,7 @@
 // A whole line: its letter, and what stands after it.
 use crate::Parsed;
 use crate::Verb;
-use crate::fields::field_length;
+use crate::fields::length_before;
 use crate::offers::parse_offer;
 use crate::plain_command;
 use text::ByteNumber;
@@ -16,7 +16,7 @@ ghost use Rattle.command.specs.Private.{asNumbered};
 fn parse_numbered(verb: Verb, s: &[u8]) -> Parsed
     ensures { λ r. ⌜ r ≡ asNumbered verb (numberIn (fields (now (s .entry)))) ⌝ }
 {
-    if field_length(s) < s.len() {
+    if length_before(b' ', s) < s.len() {
         return plain_command(Verb::Malformed, 0);
     }
     match read_byte_number(s) {

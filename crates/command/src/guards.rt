@@ -1,15 +1,18 @@
-// A guard of an offer: whether it is enabled, its partner, and its action.
+// A guard of an offer: whether it is enabled, its partner, its action, and its kind.
 use crate::ReadAction;
 use crate::ReadGuard;
 use crate::ReadMessage;
+use crate::fields::length_before;
 use crate::messages::read_message;
 use alternative::Action;
 use alternative::Guard;
+use alternative::of_kind;
 use text::ByteNumber;
 use text::is_digit;
 use text::read_byte_number;
 ghost use mathlib.Core.Path.{_≡_};
-ghost use Rattle.command.specs.Commands.{sendIn, actionIn, digitCount, guardFrom, guardIn};
+ghost use Rattle.text.specs.Types.{byteRead};
+ghost use Rattle.command.specs.Commands.{sendIn, actionIn, digitCount, guardFrom, plainGuardIn, kindIn, guardIn};
 ghost use Rattle.command.specs.Private.{actionRead, guardRead};
 
 // The bytes after a `!`.
@@ -71,6 +74,7 @@ fn guard_from(enabled: bool, s: &[u8]) -> ReadGuard
                 let guard = Guard {
                     enabled: enabled,
                     partner: partner,
+                    kind: 0,
                     action: action,
                 };
                 ReadGuard::Value(guard)
@@ -79,9 +83,9 @@ fn guard_from(enabled: bool, s: &[u8]) -> ReadGuard
     }
 }
 
-// A guard: all bytes of its field.
-pub fn read_guard(s: &[u8]) -> ReadGuard
-    ensures { λ r. ⌜ guardRead r ≡ guardIn (now (s .entry)) ⌝ }
+// A guard without its kind.
+fn read_plain_guard(s: &[u8]) -> ReadGuard
+    ensures { λ r. ⌜ guardRead r ≡ plainGuardIn (now (s .entry)) ⌝ }
 {
     if s.len() == 0 {
         return ReadGuard::Malformed;
@@ -90,4 +94,28 @@ pub fn read_guard(s: &[u8]) -> ReadGuard
         return guard_from(false, &s[1..]);
     }
     guard_from(true, s)
+}
+
+// The kind after a guard: 0 if nothing stands there, else the number after the first byte, which is the `:`.
+fn read_kind(s: &[u8]) -> ByteNumber
+    ensures { λ r. ⌜ byteRead r ≡ kindIn (now (s .entry)) ⌝ }
+{
+    if s.len() == 0 {
+        return ByteNumber::Value(0);
+    }
+    read_byte_number(&s[1..])
+}
+
+// A guard and its kind: all bytes of its field.
+pub fn read_guard(s: &[u8]) -> ReadGuard
+    ensures { λ r. ⌜ guardRead r ≡ guardIn (now (s .entry)) ⌝ }
+{
+    let end = length_before(b':', s);
+    match read_plain_guard(&s[..end]) {
+        ReadGuard::Malformed => ReadGuard::Malformed,
+        ReadGuard::Value(guard) => match read_kind(&s[end..]) {
+            ByteNumber::Malformed => ReadGuard::Malformed,
+            ByteNumber::Value(kind) => ReadGuard::Value(of_kind(guard, kind)),
+        },
+    }
 }

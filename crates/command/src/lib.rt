@@ -7,6 +7,7 @@ use lists::no_guards;
 ghost use mathlib.Core.Path.{_≡_};
 ghost use Rattle.command.specs.Cases.{LineCases};
 ghost use Rattle.command.specs.InCode.{plain};
+ghost use Rattle.command.specs.KindLeftOut.{KindLeftOut};
 
 mod commands;
 mod fields;
@@ -67,4 +68,9 @@ enum ReadGuard {
 // Carries the cases: of some lines the definitions say what the documents say.
 pub fn line_cases()
     ensures { λ _. ⌜ LineCases ⌝ }
+{}
+
+// Carries that a guard without a `:` is read as it was before there were kinds, with kind 0.
+pub fn kind_left_out()
+    ensures { λ _. ⌜ KindLeftOut ⌝ }
 {}

@@ -2,7 +2,7 @@
 use crate::Parsed;
 use crate::ReadGuard;
 use crate::Verb;
-use crate::fields::field_length;
+use crate::fields::length_before;
 use crate::guards::read_guard;
 use crate::lists::no_guards;
 use crate::lists::with_guard;
@@ -22,7 +22,7 @@ fn offer_of(p: u8, s: &[u8]) -> Parsed
     let mut at = 0;
     while at < s.len() {
         let from = at + 1;
-        let end = from + field_length(&s[from..]);
+        let end = from + length_before(b' ', &s[from..]);
         match read_guard(&s[from..end]) {
             ReadGuard::Malformed => {
                 return plain_command(Verb::Malformed, 0);
@@ -44,7 +44,7 @@ fn offer_of(p: u8, s: &[u8]) -> Parsed
 pub fn parse_offer(s: &[u8]) -> Parsed
     ensures { λ r. ⌜ r ≡ asParsed (offerIn (fields (now (s .entry)))) ⌝ }
 {
-    let end = field_length(s);
+    let end = length_before(b' ', s);
     match read_byte_number(&s[..end]) {
         ByteNumber::Malformed => plain_command(Verb::Malformed, 0),
         ByteNumber::Value(p) => offer_of(p, &s[end..]),

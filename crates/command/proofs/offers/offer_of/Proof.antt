@@ -27,17 +27,17 @@ loop-holds c = ([], c .no-guards .ensures, search needs, search needs, prefixed-
 add-end : tie.Need-add-end Inv-loop μ-loop
 add-end c =
     let l = c .before .before .before in
-    omega (arith, next-within (l .before .before .before .args .s .now) (l .loop .at) (c .field-length .result) (c .before .before .loop-test .taken) (c .field-length .ensures))
+    omega (arith, next-within (l .before .before .before .args .s .now) (l .loop .at) (c .length-before .result) (c .before .before .loop-test .taken) (c .length-before .ensures))
 
 part-read-guard-end : tie.Need-part-read-guard-end Inv-loop μ-loop
 part-read-guard-end c =
     let l = c .before .before .before in
-    next-within (l .before .before .before .args .s .now) (l .loop .at) (c .field-length .result) (c .before .before .loop-test .taken) (c .field-length .ensures)
+    next-within (l .before .before .before .args .s .now) (l .loop .at) (c .length-before .result) (c .before .before .loop-test .taken) (c .length-before .ensures)
 
 returns : tie.Need-returns Inv-loop μ-loop
 returns c =
     let l = c .before .before .before .before .before .before .before .before in
-    let f = c .before .before .before .before .before .field-length in
+    let f = c .before .before .before .before .before .length-before in
     let g = c .before .before .before .read-guard in
     rw (
       l .loop .inv .4,
@@ -54,14 +54,14 @@ with-guard-requires c κs =
 loop-less : tie.Need-loop-less Inv-loop μ-loop
 loop-less c =
     let l = c .before .before .before .before .before .before .before .before .before in
-    let f = c .before .before .before .before .before .before .field-length in
+    let f = c .before .before .before .before .before .before .length-before in
     omega (arith, next-within (l .before .before .before .args .s .now) (l .loop .at) (f .result) (c .before .before .before .before .before .before .before .before .loop-test .taken) (f .ensures))
 
 loop-again : tie.Need-loop-again Inv-loop μ-loop
 loop-again c =
     let l = c .before .before .before .before .before .before .before .before .before in
     let s = l .before .before .before .args .s .now in
-    let f = c .before .before .before .before .before .before .field-length in
+    let f = c .before .before .before .before .before .before .length-before in
     let r = c .before .before .before .before .read-guard in
     let g = c .before .before .guard .given in
     let t = c .before .before .before .before .before .before .before .before .loop-test .taken in
