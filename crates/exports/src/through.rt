@@ -29,6 +29,7 @@ fn on_other(partner: u8, action: Action, place: Place) -> Process
     guards[0] = Guard {
         enabled: true,
         partner: partner,
+        kind: 0,
         action: action,
     };
     let altlist = guards;

@@ -9,7 +9,7 @@ use native.Mathlib.Omega.{arith}
 use lib.ListN.{getD, getElem?, take, drop}
 use lib.Seq.{getD-drop}
 use lib.Dec.{eqb, leb}
-use borrow.Author.Tests.{eqb-true, eqb-false, ltb-true, not-true}
+use borrow.Author.Tests.{eqb-true, eqb-false, eq-eqb, ne-eqb, ltb-true, not-true}
 use Rattle.alternative.specs.declared.Action.{Action}
 use Rattle.alternative.specs.declared.Guard.{Guard}
 use Rattle.alternative.specs.declared.Found.{Found}
@@ -25,6 +25,7 @@ pub record Match (p : ℕ) (g : Guard) (q : ℕ) (h : Guard) : Type 0 where
   pub to : g .partner ≡ q
   pub back : h .partner ≡ p
   pub one-sends : opposite (g .action) (h .action) ≡ true
+  pub same-kind : g .kind ≡ h .kind
 
 pub match : {p : ℕ} {g : Guard} {q : ℕ} {h : Guard} → guardsMatch p g q h ≡ true → Match p g q h
 unfolding guardsMatch
@@ -33,13 +34,21 @@ match {p} {g} {q} {h} e =
     let b = and-parts (h .enabled) _ (a .1) in
     let c = and-parts (eqb (g .partner) q) _ (b .1) in
     let d = and-parts (eqb (h .partner) p) _ (c .1) in
-    record { here = a .0; there = b .0; to = eqb-true _ _ (c .0); back = eqb-true _ _ (d .0); one-sends = d .1 }
+    let f = and-parts (opposite (g .action) (h .action)) _ (d .1) in
+    record { here = a .0; there = b .0; to = eqb-true _ _ (c .0); back = eqb-true _ _ (d .0); one-sends = f .0; same-kind = eqb-true _ _ (f .1) }
 
 opposite-comm : (a b : Action) → opposite a b ≡ opposite b a
 opposite-comm Action.Receive Action.Receive = refl
 opposite-comm Action.Receive (Action.Send m) = refl
 opposite-comm (Action.Send m) Action.Receive = refl
 opposite-comm (Action.Send m) (Action.Send k) = refl
+
+eqb-comm : (a b : ℕ) → eqb a b ≡ eqb b a
+eqb-comm a b = go (eqb a b) refl
+  where
+    go : (t : Bool) → eqb a b ≡ t → t ≡ eqb b a
+    go true e = sym (eq-eqb b a (sym (eqb-true a b e)))
+    go false e = sym (ne-eqb b a (λ f. eqb-false a b e (sym f)))
 
 and-swap : (a b c : Bool) → (a && (b && c)) ≡ (b && (a && c))
 and-swap true b c = refl
@@ -49,7 +58,7 @@ and-swap false false c = refl
 -- matching is symmetric
 pub match-comm : (p : ℕ) (g : Guard) (q : ℕ) (h : Guard) → guardsMatch p g q h ≡ guardsMatch q h p g
 unfolding guardsMatch
-match-comm p g q h = rw (opposite-comm (g .action) (h .action), and-swap (eqb (g .partner) q) (eqb (h .partner) p) _) (and-swap (g .enabled) (h .enabled) _)
+match-comm p g q h = rw (opposite-comm (g .action) (h .action), eqb-comm (g .kind) (h .kind), and-swap (eqb (g .partner) q) (eqb (h .partner) p) _) (and-swap (g .enabled) (h .enabled) _)
 
 -- by the two values of a test
 test-elim : {A : Type 0} (P : A → Type 0) (b : Bool) {x y : A} → (b ≡ true → P x) → (b ≡ false → P y) → P (cond b x y)

@@ -8,3 +8,5 @@ pub mod NothingLost
 pub mod Cases
 pub mod Further
 pub mod Withdrawals
+pub mod KindsNeverCross
+pub mod KindCases

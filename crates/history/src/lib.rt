@@ -5,6 +5,8 @@ ghost use Rattle.history.specs.NothingLost.{NothingLost};
 ghost use Rattle.history.specs.Cases.{Starred};
 ghost use Rattle.history.specs.Further.{Further, Demand3AtEnds};
 ghost use Rattle.history.specs.Withdrawals.{Withdrawals};
+ghost use Rattle.history.specs.KindsNeverCross.{KindsNeverCross};
+ghost use Rattle.history.specs.KindCases.{KindCases};
 
 // Carries demand 3, so that the verdict has a line for it: the claim about every list of calls from any fresh table.
 pub fn demand3()
@@ -39,4 +41,14 @@ pub fn further_cases()
 // Carries the cases of withdrawals: in each of them the definitions say what document 02 says.
 pub fn withdrawal_cases()
     ensures { λ _. ⌜ Withdrawals ⌝ }
+{}
+
+// Carries the claim that no list of calls crosses kinds: each rendezvous joins guards of one kind.
+pub fn kinds_never_cross()
+    ensures { λ _. ⌜ KindsNeverCross ⌝ }
+{}
+
+// Carries the cases of kinds: in each of them the definitions say what document 02 says.
+pub fn kind_cases()
+    ensures { λ _. ⌜ KindCases ⌝ }
 {}

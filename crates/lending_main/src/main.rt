@@ -24,6 +24,7 @@ fn nine_guards() -> [Guard; 9] {
     let guard = Guard {
         enabled: true,
         partner: 3,
+        kind: 0,
         action: Action::Send(Message::Reading(4.72)),
     };
     [guard; 9]

@@ -19,12 +19,14 @@ fn guard_by(p: u8) -> Guard {
         Guard {
             enabled: true,
             partner: 1,
+            kind: 0,
             action: Action::Send(Message::Reading(4.72)),
         }
     } else {
         Guard {
             enabled: true,
             partner: 0,
+            kind: 0,
             action: Action::Receive,
         }
     }

@@ -36,10 +36,6 @@ sets-front l xs n e h =
 pub sets-whole : (l xs : List ℕ) → length xs ≡ length l → sets l 0 xs ≡ xs
 sets-whole l xs e = sets-front l xs (length l) e (le-refl (length l)) ∙ ap (λ (r : List ℕ). xs ++ r) (drop-length l) ∙ append-nil xs
 
--- two parts that are the whole
-pub sets-two : (l xs ys : List ℕ) → length xs + length ys ≡ length l → sets (sets l 0 xs) (length xs) ys ≡ xs ++ ys
-sets-two l xs ys e = sets-join l 0 xs ys (length xs) (omega arith) ∙ sets-whole l (xs ++ ys) (length-append xs ys ∙ e)
-
 -- values that are read, `size` bytes each
 module _ {A : Type 0} (read : List ℕ → A) (size : ℕ) where
   pub each-count : (n : ℕ) (bytes : List ℕ) → length (eachOf read size n bytes) ≡ n

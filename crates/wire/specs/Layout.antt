@@ -24,9 +24,9 @@ sentAt = 1
 abbrev pub actionLength : ℕ
 actionLength = sentAt + messageLength
 
--- a guard: enabled, the partner, the action
+-- a guard: enabled, the partner, the kind, the action
 abbrev pub actionAt : ℕ
-actionAt = 2
+actionAt = 3
 
 abbrev pub guardLength : ℕ
 guardLength = actionAt + actionLength
@@ -91,5 +91,5 @@ tableLength = headLength + recordsLength
 -- how long a message, a guard, a record, a head and a table are, and where in a record the signal, the ticket, accepting, the own and the posted guards stand: the numbers of docs/BYTES.md
 abbrev pub Lengths : Type 0
 Lengths =
-    (messageLength ≡ 9) × (guardLength ≡ 12) × (recordLength ≡ 222) × (headLength ≡ 5) × (tableLength ≡ 7109) ×
-    (signalAt ≡ 12) × (ticketAt ≡ 23) × (acceptingAt ≡ 27) × (guardsAt ≡ 30) × (altlistAt ≡ 126)
+    (messageLength ≡ 9) × (guardLength ≡ 13) × (recordLength ≡ 238) × (headLength ≡ 5) × (tableLength ≡ 7621) ×
+    (signalAt ≡ 12) × (ticketAt ≡ 23) × (acceptingAt ≡ 27) × (guardsAt ≡ 30) × (altlistAt ≡ 134)

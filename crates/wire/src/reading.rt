@@ -51,6 +51,7 @@ fn guard_of(bytes: &[u8]) -> Guard
     Guard {
         enabled: byte_at(bytes, 0) != 0,
         partner: byte_at(bytes, 1),
+        kind: byte_at(bytes, 2),
         action: action,
     }
 }

@@ -13,6 +13,7 @@ use process::Signal;
 use rendezvous::Head;
 ghost use mathlib.Core.Path.{_≡_};
 ghost use mathlib.Core.List.{_∷_, _++_};
+ghost use lib.Seq.{sets};
 ghost use Rattle.wire.specs.Writing.{flag, wordBytes, messageBytes, guardBytes, placeBytes, signalBytes, guardsBytes, processBytes, headBytes};
 
 pub fn flag_byte(b: bool) -> u8
@@ -40,15 +41,22 @@ pub fn message_bytes(m: Message) -> [u8; layout::MESSAGE_BYTES]
     }
 }
 
-// Three bytes, then a message: so are a guard (enabled, the partner, the action's variant) and a place (its variant, two indices).
-fn three_and_message(a: u8, b: u8, c: u8, m: Message) -> [u8; 3 + layout::MESSAGE_BYTES]
-    ensures { λ r. ⌜ r ≡ a ∷ b ∷ c ∷ messageBytes m ⌝ }
+// Writes bytes, and a message behind them, to the front. What goes past the end is dropped.
+fn put_with_message(out: &mut [u8], bytes: &[u8], m: Message)
+    ensures { λ _. ⌜ now (out .exit) ≡ sets (now (out .entry)) 0 (now (bytes .entry) ++ messageBytes m) ⌝ }
 {
-    let mut out = [0u8; 3 + layout::MESSAGE_BYTES];
-    let three = [a, b, c];
-    put_bytes(&mut out, 0, &three);
+    put_bytes(out, 0, bytes);
     let message = message_bytes(m);
-    put_bytes(&mut out, 3, &message);
+    put_bytes(out, bytes.len(), &message);
+}
+
+// A guard: enabled, the partner, the kind, the action's variant, its message.
+fn four_and_message(a: u8, b: u8, c: u8, d: u8, m: Message) -> [u8; layout::GUARD_BYTES]
+    ensures { λ r. ⌜ r ≡ a ∷ b ∷ c ∷ d ∷ messageBytes m ⌝ }
+{
+    let mut out = [0u8; layout::GUARD_BYTES];
+    let four = [a, b, c, d];
+    put_with_message(&mut out, &four, m);
     out
 }
 
@@ -58,9 +66,19 @@ fn guard_bytes(g: Guard) -> [u8; layout::GUARD_BYTES]
     let enabled = flag_byte(g.enabled);
     let action = g.action;
     match action {
-        Action::Receive => three_and_message(enabled, g.partner, 0, Message::Nothing),
-        Action::Send(m) => three_and_message(enabled, g.partner, 1, m),
+        Action::Receive => four_and_message(enabled, g.partner, g.kind, 0, Message::Nothing),
+        Action::Send(m) => four_and_message(enabled, g.partner, g.kind, 1, m),
     }
+}
+
+// A place: its variant, two indices, its message.
+fn three_and_message(a: u8, b: u8, c: u8, m: Message) -> [u8; layout::PLACE_BYTES]
+    ensures { λ r. ⌜ r ≡ a ∷ b ∷ c ∷ messageBytes m ⌝ }
+{
+    let mut out = [0u8; layout::PLACE_BYTES];
+    let three = [a, b, c];
+    put_with_message(&mut out, &three, m);
+    out
 }
 
 fn place_bytes(place: Place) -> [u8; layout::PLACE_BYTES]
@@ -87,9 +105,7 @@ fn two_and_message(a: u8, b: u8, m: Message) -> [u8; layout::SIGNAL_BYTES]
 {
     let mut out = [0u8; layout::SIGNAL_BYTES];
     let two = [a, b];
-    put_bytes(&mut out, 0, &two);
-    let message = message_bytes(m);
-    put_bytes(&mut out, layout::SIGNALLED_AT, &message);
+    put_with_message(&mut out, &two, m);
     out
 }
 
