@@ -71,13 +71,13 @@ pub fn of_kind(guard: Guard, kind: u8) -> Guard
     }
 }
 
-// Carries that guards match only within a kind, and there as they do without kinds.
-pub fn kinds_refine()
-    ensures { λ _. ⌜ KindsRefine ⌝ }
-{}
-
 // What a search in a list finds: the index of a guard, or none.
 pub enum Found {
     At(u8),
     Missing,
 }
+
+// Carries that guards match only within a kind, and there as they do without kinds.
+pub fn kinds_refine()
+    ensures { λ _. ⌜ KindsRefine ⌝ }
+{}

@@ -1,4 +1,4 @@
--- To be believed. Document 01, "The script program": the marked session, byte for byte; limits and whole numbers; what gives 8; and, of CR 1 of document 02, slots that close.
+-- To be believed. Document 01, "The script program": the marked session, byte for byte; limits and whole numbers; what gives 8; and, of document 02, slots that close (CR 1) and two sensors (CR 2).
 use Prim.Native.Nat.{ℕ}
 use mathlib.Core.Path.{_≡_}
 use mathlib.Core.List.{List, _++_, flatten}
@@ -40,3 +40,10 @@ abbrev pub ClosedSlots : Type 0
 ClosedSlots =
     output (bytes "n 2\nw 0\nw 2\no 0 1?\nw 0\no 0 1?\no 1 0!r40970a3d\ns 0\ns 0\ns 0\ns 0\ns 0\ns 1\ns 1\ns 1\nw 0\nw 1\ns 1\ns 0\nw 0\nc 0\n")
     ≡ bytes "n 2\nx 14\nx 2\no 0 t0\nw 0 ok\no 0 t1\no 1 t2\ns 0 A0\ns 0 P\ns 0 O\ns 0 H\ns 0 W\ns 1 A0\ns 1 T0\ns 1 C0\nw 0 late\nw 1 late\ns 1 M\ns 0 M\nx 14\nc 0 0 1 r40970a3d\n"
+
+-- CR 2: "The script writes `:k`, k formed like N, after the guard". Process 0 takes temperature, of kind 1, or strain, of kind 2; process 1 has a strain of 340 first and a temperature of 21.
+-- The strain goes to the guard for strains; the second time, each takes the other guard. A kind of 256 gives 8.
+abbrev pub TwoSensors : Type 0
+TwoSensors =
+    output (bytes "n 2\no 0 1?:1 1?:2\ns 0\ns 0\ns 0\ns 0\ns 0\ns 0\no 1 0!w340:2 0!w21:1\ns 1\ns 1\ns 1\ns 1\ns 0\nc 0\nc 1\no 1 0!w21:1\no 0 1?:2 1?:1\ns 1\ns 1\ns 1\ns 1\ns 1\ns 0\ns 0\ns 0\ns 0\ns 0\ns 0\ns 1\nc 0\no 0 1?:256\n")
+    ≡ bytes "n 2\no 0 t0\ns 0 A0\ns 0 A1\ns 0 P\ns 0 O\ns 0 H\ns 0 W\no 1 t1\ns 1 A0\ns 1 T0\ns 1 C0\ns 1 M\ns 0 M\nc 0 1 1 w340\nc 1 0 0 0\no 1 t2\no 0 t3\ns 1 A0\ns 1 P\ns 1 O\ns 1 H\ns 1 W\ns 0 A0\ns 0 T0\ns 0 A1\ns 0 T1\ns 0 C1\ns 0 M\ns 1 M\nc 0 1 1 w21\nx 8\n"

@@ -1,6 +1,6 @@
 // The script program of documents 01 and 02, from all input bytes to all output bytes: its lines, commands, calls and printed lines.
 use rendezvous::ProcessTable;
-ghost use Rattle.script.specs.Examples.{MarkedSession, CarriedMessages, MalformedLines, ClosedSlots};
+ghost use Rattle.script.specs.Examples.{MarkedSession, CarriedMessages, MalformedLines, ClosedSlots, TwoSensors};
 ghost use Rattle.script.specs.Feeding.{Pieces};
 
 mod acting;
@@ -54,4 +54,9 @@ pub fn malformed_lines()
 // Carries withdrawals before and after a commit, byte for byte.
 pub fn closed_slots()
     ensures { λ _. ⌜ ClosedSlots ⌝ }
+{}
+
+// Carries two sensors whose whole numbers would cross without kinds, byte for byte.
+pub fn two_sensors()
+    ensures { λ _. ⌜ TwoSensors ⌝ }
 {}
