@@ -87,12 +87,20 @@ static Text message_in(const uint8_t *bytes) {
     return m;
 }
 
+/* Kind 0 is shown as scripts mostly write it: left out. */
+static Text kind_in(const uint8_t *guard) {
+    Text k = {""};
+    unsigned kind = guard[RENDEZVOUS_GUARD_KIND];
+    if (kind > 0) snprintf(k.text, sizeof k.text, ":%u", kind);
+    return k;
+}
+
 static Text guard_in(const uint8_t *process, unsigned list, unsigned i) {
     const uint8_t *bytes = guard_at(process, list, i);
     bool sends = bytes[RENDEZVOUS_GUARD_SENDS];
     Text g, message = sends ? message_in(bytes + RENDEZVOUS_GUARD_MESSAGE) : (Text){""};
-    snprintf(g.text, sizeof g.text, "%s%u%s%.20s", bytes[RENDEZVOUS_GUARD_ENABLED] ? "" : "-", bytes[RENDEZVOUS_GUARD_PARTNER], sends ? "!" : "?",
-             message.text);
+    snprintf(g.text, sizeof g.text, "%s%u%s%.20s%.4s", bytes[RENDEZVOUS_GUARD_ENABLED] ? "" : "-", bytes[RENDEZVOUS_GUARD_PARTNER], sends ? "!" : "?",
+             message.text, kind_in(bytes).text);
     return g;
 }
 
@@ -113,20 +121,23 @@ static char place(const uint8_t *session, unsigned p) {
     return letters[at];
 }
 
-/* Guard i as the script's line of an offer, `o P G..`, writes it. */
+/* Guard i as the script's line of an offer, `o P G..`, writes it, but for `:0`: that is left out, as in guard_in. */
 static Text guard_written(const char *offer, unsigned i) {
     Text g = {""};
+    char *kind;
     for (unsigned field = 0; field < i + 2 && offer; field++)
         if ((offer = strchr(offer, ' '))) offer++;
     if (!offer) fail("the table has a guard that the script has not");
     snprintf(g.text, sizeof g.text, "%.*s", (int)strcspn(offer, " \n"), offer);
+    if ((kind = strchr(g.text, ':')) && strcmp(kind, ":0") == 0) *kind = 0;
     return g;
 }
 
+/* The message of a guard as written, which ends before the kind. */
 static Text message_written(Text guard) {
     const char *mark = strchr(guard.text, '!');
     Text m = {"0"};
-    if (mark) memcpy(m.text, mark + 1, strlen(mark));
+    if (mark) snprintf(m.text, sizeof m.text, "%.*s", (int)strcspn(mark + 1, ":"), mark + 1);
     return m;
 }
 

@@ -6,8 +6,9 @@
 
    A line is written before its call is made, so that the log of a program that stops ends with the call that it was in. Where tasks
    share a table, write it under the lock that the call is made under: the lines then stand in the order of the calls. A log begins
-   where its table is made. One difference can be seen: a refused offer of so many guards that its line is longer than 200 bytes
-   has 8 in the script, not 3; the table stays the same either way. */
+   where its table is made. A line longer than 200 bytes has 8 in the script. Where the offer was refused, by 3 say, the table stays the
+   same either way. But an offer of eight limits whose kinds have two digits or more can be accepted and have so long a line: the
+   script then goes on without it. Where every kind is below 10, no accepted offer is so long. */
 #include "rendezvous.h"
 #include <stdio.h>
 #include <stdlib.h>
@@ -29,6 +30,7 @@ static void write_guard(FILE *to, const uint8_t *guard) {
     bool sends = guard[RENDEZVOUS_GUARD_SENDS];
     fprintf(to, " %s%u%c", guard[RENDEZVOUS_GUARD_ENABLED] ? "" : "-", guard[RENDEZVOUS_GUARD_PARTNER], sends ? '!' : '?');
     if (sends) write_message(to, guard + RENDEZVOUS_GUARD_MESSAGE);
+    if (guard[RENDEZVOUS_GUARD_KIND] != 0) fprintf(to, ":%u", guard[RENDEZVOUS_GUARD_KIND]);
 }
 
 /* What a call answered, as the script program prints it. */
