@@ -61,8 +61,8 @@ fn put_slots(out: &mut Vec<u8>, list: &[Guard]) {
 }
 
 pub fn put_guard(out: &mut Vec<u8>, guard: &Guard) {
-    let sends = u8::from(guard.sends());
-    out.extend([u8::from(guard.enabled), guard.partner as u8, sends]);
+    let (enabled, sends) = (u8::from(guard.enabled), u8::from(guard.sends()));
+    out.extend([enabled, guard.partner as u8, guard.kind, sends]);
     put_message(out, guard.message());
 }
 
@@ -81,7 +81,7 @@ pub fn put_message(out: &mut Vec<u8>, message: Message) {
 #[cfg(test)]
 mod tests {
     use super::*;
-    use crate::rendezvous::{receives, sends};
+    use crate::rendezvous::{of_kind, receives, sends};
     use crate::rendezvous::{GUARD_BYTES, GUARD_MESSAGE, HEAD_BYTES, HEAD_COUNT};
     use crate::rendezvous::{HEAD_NEXT, MESSAGE_BYTES, MESSAGE_VARIANT, RECORD_ACCEPTING};
     use crate::rendezvous::{LIMIT, NOTHING, READING, WHOLE};
@@ -116,11 +116,13 @@ mod tests {
         let sending = Guard {
             enabled: false,
             partner: 9,
+            kind: 255,
             action: Action::Send(Message::Whole(-2)),
         };
         let receiving = Guard {
             enabled: true,
             partner: 8,
+            kind: 0,
             action: Action::Receive,
         };
         record.posted = vec![sending, receiving];
@@ -139,16 +141,16 @@ mod tests {
         assert_eq!(bytes[RECORD_ACCEPTING], 1);
         assert_eq!(bytes[RECORD_COUNTS..RECORD_OWN], [0, 2]);
         let (first, rest) = bytes[RECORD_POSTED..].split_at(GUARD_BYTES);
-        assert_eq!(first[..GUARD_MESSAGE], [0, 9, 1]);
+        assert_eq!(first[..GUARD_MESSAGE], [0, 9, 255, 1]);
         assert_eq!(first[GUARD_MESSAGE..], [1, 254, 255, 255, 255, 0, 0, 0, 0]);
-        assert_eq!(first, sends(false, 9, WHOLE, 0xffff_fffe, 0));
+        assert_eq!(first, of_kind(sends(false, 9, WHOLE, 0xffff_fffe, 0), 255));
         assert_eq!(rest[..GUARD_BYTES], receives(true, 8));
     }
 
     #[test]
-    fn messages_have_their_kinds() {
+    fn messages_have_their_variants() {
         let (low, high) = (1.0, -2.0);
-        for (message, kind) in [
+        for (message, variant) in [
             (Message::Nothing, NOTHING),
             (Message::Whole(7), WHOLE),
             (Message::Reading(low), READING),
@@ -156,7 +158,7 @@ mod tests {
         ] {
             let mut bytes = Vec::new();
             put_message(&mut bytes, message);
-            assert_eq!(bytes[MESSAGE_VARIANT], kind);
+            assert_eq!(bytes[MESSAGE_VARIANT], variant);
         }
     }
 }
