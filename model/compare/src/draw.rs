@@ -195,3 +195,24 @@ fn spoil(random: &mut Random, guards: &mut Vec<Guard>, owner: usize, n: usize) {
         _ => guards.iter_mut().for_each(|guard| guard.enabled = false),
     }
 }
+
+#[cfg(test)]
+mod tests {
+    use super::*;
+
+    #[test]
+    fn kinds_of_partners_are_often_equal_and_often_nearly_so() {
+        let mut random = Random::new(1);
+        let mut apart = [0; 256];
+        for _ in 0..4000 {
+            let n = 2 + random.below(31);
+            let party = random.below(n);
+            let partner = partner(&mut random, party, n);
+            let own = kind(&mut random, party, partner, n);
+            let other = kind(&mut random, partner, party, n);
+            apart[usize::from(own.wrapping_sub(other))] += 1;
+        }
+        assert!(apart[0] > 2000);
+        assert!([1, 128, 255].iter().all(|&near| apart[near] > 200));
+    }
+}

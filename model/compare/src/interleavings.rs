@@ -37,14 +37,19 @@ pub fn run(library: &dyn Library, budget: Budget) -> Verdict {
         }
         explore(library, &plan, end, &mut sums).map_err(|text| Finding::new(budget.seed, text))?;
     }
-    Ok(sums.told())
+    match sums.by_kinds.missed() {
+        Some(text) if sums.pairs_by_kind == PAIRS_BY_KIND as u64 => {
+            Err(Finding::new(budget.seed, text))
+        }
+        _ => Ok(sums.told()),
+    }
 }
 
 impl Sums {
     fn told(&self) -> String {
         format!(
             "interleavings: every order of {} of {PAIRS} plans for two processes with a withdrawal each, \
-             {} of {PAIRS_BY_KIND} with two kinds and none, {} of {TRIPLES} for three and {} with second offers; \
+             {} of {PAIRS_BY_KIND} with two kinds and no withdrawal, {} of {TRIPLES} for three and {} with second offers; \
              {} states, {} calls, {} commits, {} withdrawals, {} too late, {} states at rest; {}",
             self.pairs,
             self.pairs_by_kind,

@@ -25,6 +25,7 @@ const WITHDRAWALS: [(&str, [&str; 2]); 4] = [
 // What kinds alone decide.
 const PASSED_OVER: &str = "rule 7 behind a guard that matches but for its kind";
 const FOUND_NONE: &str = "rule 8 where a guard matches but for its kind";
+const KINDS_REPLACED: &str = "rule 10 over a list that differs in kinds alone";
 
 // Odd cases that only damaged tables have.
 const EQUAL_TICKETS: &str = "rule 6 with equal tickets";
@@ -37,9 +38,10 @@ const NAN_HANDED_OVER: &str = "rule 9 hands over a NaN";
 const STILL_ACCEPTING: &str = "rule 13 with wake count 0";
 const SIGNAL_STAYS: &str = "withdrawn under an old signal";
 
-const CASES: [&str; 11] = [
+const CASES: [&str; 12] = [
     PASSED_OVER,
     FOUND_NONE,
+    KINDS_REPLACED,
     EQUAL_TICKETS,
     DISABLED_OWN,
     TWO_RECEIVING,
@@ -207,9 +209,19 @@ fn case_of(desk: &Desk, party: usize, rule: u8) -> Option<&'static str> {
             let own = record.guards[own];
             odd_delivery(&own, &desk.parties[own.partner], kept)
         }
+        Place::Posting => kinds_alone_differ(record).then_some(KINDS_REPLACED),
         Place::Waiting => (rule == 13 && record.wake_count == 0).then_some(STILL_ACCEPTING),
         _ => None,
     }
+}
+
+/// True if the posted list is the own one but for kinds.
+fn kinds_alone_differ(record: &Party) -> bool {
+    let plain = |list: &[Guard]| -> Vec<Guard> {
+        let guards = list.iter();
+        guards.map(|&guard| Guard { kind: 0, ..guard }).collect()
+    };
+    record.posted != record.guards && plain(&record.posted) == plain(&record.guards)
 }
 
 fn odd_delivery(own: &Guard, partner: &Party, kept: usize) -> Option<&'static str> {

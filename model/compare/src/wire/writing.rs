@@ -113,19 +113,6 @@ mod tests {
         });
         record.ticket = Ticket(6);
         record.wake_count = 0;
-        let sending = Guard {
-            enabled: false,
-            partner: 9,
-            kind: 255,
-            action: Action::Send(Message::Whole(-2)),
-        };
-        let receiving = Guard {
-            enabled: true,
-            partner: 8,
-            kind: 0,
-            action: Action::Receive,
-        };
-        record.posted = vec![sending, receiving];
         let table = encode(&desk);
         let (head, records) = table.bytes().split_at(HEAD_BYTES);
         let bytes = &records[RECORD_BYTES..];
@@ -139,7 +126,29 @@ mod tests {
         assert_eq!(bytes[RECORD_SIGNAL_MESSAGE..RECORD_TICKET], signalled);
         assert_eq!(bytes[RECORD_TICKET..RECORD_ACCEPTING], [6, 0, 0, 0]);
         assert_eq!(bytes[RECORD_ACCEPTING], 1);
-        assert_eq!(bytes[RECORD_COUNTS..RECORD_OWN], [0, 2]);
+    }
+
+    #[test]
+    fn the_guards_stand_where_they_should() {
+        let sending = Guard {
+            enabled: false,
+            partner: 9,
+            kind: 255,
+            action: Action::Send(Message::Whole(-2)),
+        };
+        let receiving = Guard {
+            enabled: true,
+            partner: 8,
+            kind: 0,
+            action: Action::Receive,
+        };
+        let mut desk = Desk::new(2).expect("two is a good number");
+        desk.parties[0].guards = vec![receiving];
+        desk.parties[0].posted = vec![sending, receiving];
+        let table = encode(&desk);
+        let bytes = &table.bytes()[HEAD_BYTES..];
+        assert_eq!(bytes[RECORD_COUNTS..RECORD_OWN], [1, 2]);
+        assert_eq!(bytes[RECORD_OWN..][..GUARD_BYTES], receives(true, 8));
         let (first, rest) = bytes[RECORD_POSTED..].split_at(GUARD_BYTES);
         assert_eq!(first[..GUARD_MESSAGE], [0, 9, 255, 1]);
         assert_eq!(first[GUARD_MESSAGE..], [1, 254, 255, 255, 255, 0, 0, 0, 0]);
