@@ -55,6 +55,7 @@ fn guard_of(party: u8) -> Guard {
     Guard {
         enabled: true,
         partner,
+        kind: 0,
         action,
     }
 }

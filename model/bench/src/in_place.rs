@@ -46,6 +46,7 @@ fn guard_of(party: usize) -> Guard {
     Guard {
         enabled: true,
         partner,
+        kind: 0,
         action,
     }
 }

@@ -3,9 +3,9 @@
 
 use crate::draw::{self, list, message};
 use crate::random::Random;
-use crate::rendezvous::PROCESSES;
+use crate::rendezvous::{GUARDS, PROCESSES};
 use crate::wire::BLANK;
-use model::{Call, Desk, Guard, IndexedMessage, Party, Place, Ticket};
+use model::{Action, Call, Desk, Guard, IndexedMessage, Party, Place, Ticket};
 
 /// One float in so many of a damaged desk is not a number.
 const NAN_IN: usize = 4;
@@ -53,6 +53,7 @@ pub fn odd_desk(random: &mut Random) -> Desk {
         _ => 2 + random.below(3),
     };
     let mut parties: Vec<Party> = (0..n).map(|party| odd_party(random, party, n)).collect();
+    answer_some(random, &mut parties);
     commit_some(random, &mut parties);
     while parties.len() < PROCESSES {
         parties.push(match random.one_in(3) {
@@ -83,17 +84,35 @@ fn odd_party(random: &mut Random, party: usize, n: usize) -> Party {
     } else {
         Some(indexed(random, guards.len()))
     };
+    let posted = match random.one_in(4) {
+        true => with_other_kinds(random, &guards),
+        false => list(random, party, n, NAN_IN),
+    };
     Party {
         guards,
         ticket: Ticket(match random.below(4) {
             0 => random.bits(),
             _ => random.below(4) as u32,
         }),
-        posted: list(random, party, n, NAN_IN),
+        posted,
         wake_count: random.below(2) as u8,
         signal,
         place,
     }
+}
+
+/// The same list but for kinds.
+fn with_other_kinds(random: &mut Random, list: &[Guard]) -> Vec<Guard> {
+    let mut list = list.to_vec();
+    for guard in &mut list {
+        guard.kind = match random.below(4) {
+            0 => guard.kind.wrapping_add(1),
+            1 => guard.kind ^ 0x80,
+            2 => random.byte(),
+            _ => guard.kind,
+        };
+    }
+    list
 }
 
 fn indexed(random: &mut Random, count: usize) -> IndexedMessage {
@@ -121,6 +140,35 @@ fn odd_place(random: &mut Random, count: usize) -> Place {
         3..=4 => Place::Trying(random.below(count)),
         5 => Place::Met(indexed(random, count)),
         _ => place_without_index(random),
+    }
+}
+
+/// Lets some partners of parties at T accept, with a guard that matches, or does
+/// but for its kind, or with both.
+fn answer_some(random: &mut Random, parties: &mut [Party]) {
+    for party in 0..parties.len() {
+        let Place::Trying(own) = parties[party].place else {
+            continue;
+        };
+        let own = parties[party].guards[own];
+        let partner = &mut parties[own.partner];
+        let action = match own.sends() {
+            true => Action::Receive,
+            false => Action::Send(message(random, NAN_IN)),
+        };
+        for kind in [own.kind, own.kind.wrapping_add(1)] {
+            let count = partner.posted.len();
+            if count < GUARDS && random.one_in(3) {
+                let answer = Guard {
+                    enabled: true,
+                    partner: party,
+                    kind,
+                    action,
+                };
+                partner.posted.insert(random.below(count + 1), answer);
+                partner.wake_count = 0;
+            }
+        }
     }
 }
 
@@ -279,12 +327,14 @@ pub fn changed_desk(random: &mut Random) -> Desk {
 
 fn change_one_value(random: &mut Random, record: &mut Party) {
     let count = record.guards.len().max(1);
-    match random.below(6) {
+    match random.below(8) {
         0 => record.place = odd_place(random, count),
         1 => record.wake_count ^= 1,
         2 => record.signal = Some(indexed(random, count)),
         3 => record.signal = None,
         4 => record.ticket = Ticket(random.below(5) as u32),
-        _ => record.posted = record.guards.clone(),
+        5 => record.posted = record.guards.clone(),
+        6 => record.posted = with_other_kinds(random, &record.guards),
+        _ => record.guards = with_other_kinds(random, &record.guards),
     }
 }

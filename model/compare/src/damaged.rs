@@ -131,7 +131,7 @@ fn slack(random: &mut Random) -> Table {
     table
 }
 
-/// Bytes of any kind are a table too, mostly one out of form.
+/// Any bytes are a table too, mostly one out of form.
 fn random_bytes(random: &mut Random) -> Table {
     let mut table = Table::zero();
     let most = random.pick(&[2, 4, 12, 256]);
@@ -173,16 +173,26 @@ fn show(desk: &Desk) -> String {
 #[cfg(test)]
 mod tests {
     use super::*;
-    use crate::erring::{Erring, ERRORS};
+    use crate::erring::{Erring, KindBlind, ERRORS};
     use std::time::Duration;
+
+    fn found(library: &dyn Library) -> String {
+        let time = Duration::from_secs(20);
+        let found = run(library, Budget { seed: 1, time }).err();
+        found.expect("a difference").text
+    }
 
     #[test]
     fn errors_in_withdrawals_are_found_and_told_by_one_call() {
         for (right, wrong) in ERRORS {
-            let time = Duration::from_secs(20);
-            let found = run(&Erring { right, wrong }, Budget { seed: 1, time }).err();
-            let text = found.expect("a difference").text;
+            let text = found(&Erring { right, wrong });
             assert!(text.contains("\ncall: w "), "{text}");
         }
+    }
+
+    #[test]
+    fn a_search_that_does_not_look_at_kinds_is_found_and_told_by_one_step() {
+        let text = found(&KindBlind);
+        assert!(text.contains("\ncall: s "), "{text}");
     }
 }

@@ -30,6 +30,9 @@ const EDGES: [u32; 9] = [
     0x4097_0a3d,
 ];
 
+/// Kinds at the edges of a byte and of its top bit.
+const KINDS: [u8; 6] = [0, 1, 127, 128, 254, 255];
+
 /// No float of a message is a NaN.
 const NEVER: usize = usize::MAX;
 
@@ -77,11 +80,32 @@ fn partner(random: &mut Random, party: usize, n: usize) -> usize {
     (party + 1 + random.below(n - 1)) % n
 }
 
+/// The kind that two processes have for each other most of the time.
+fn common_kind(party: usize, partner: usize, n: usize) -> u8 {
+    KINDS[(party + partner + n) % KINDS.len()]
+}
+
+/// Mostly the common kind, so that offers match often; else one that an error
+/// might take for it: the next one, with 0 beside 255, or the same but for the
+/// top bit; now and then any byte.
+fn kind(random: &mut Random, party: usize, partner: usize, n: usize) -> u8 {
+    let common = common_kind(party, partner, n);
+    match random.below(16) {
+        0 => common.wrapping_add(1),
+        1 => common.wrapping_sub(1),
+        2 => common ^ 0x80,
+        3 => random.byte(),
+        _ => common,
+    }
+}
+
 /// A guard that fits into the list of `party`.
 fn guard(random: &mut Random, party: usize, n: usize, nan_in: usize) -> Guard {
+    let partner = partner(random, party, n);
     Guard {
         enabled: !random.one_in(5),
-        partner: partner(random, party, n),
+        partner,
+        kind: kind(random, party, partner, n),
         action: match random.one_in(2) {
             true => Action::Receive,
             false => Action::Send(message(random, nan_in)),
@@ -110,6 +134,7 @@ pub fn sociable_list(random: &mut Random, party: usize, n: usize) -> Vec<Guard> 
         let guard = Guard {
             enabled: true,
             partner,
+            kind: common_kind(party, partner, n),
             action,
         };
         guards.insert(random.below(guards.len() + 1), guard);
@@ -168,5 +193,26 @@ fn spoil(random: &mut Random, guards: &mut Vec<Guard>, owner: usize, n: usize) {
             });
         }
         _ => guards.iter_mut().for_each(|guard| guard.enabled = false),
+    }
+}
+
+#[cfg(test)]
+mod tests {
+    use super::*;
+
+    #[test]
+    fn kinds_of_partners_are_often_equal_and_often_nearly_so() {
+        let mut random = Random::new(1);
+        let mut apart = [0; 256];
+        for _ in 0..4000 {
+            let n = 2 + random.below(31);
+            let party = random.below(n);
+            let partner = partner(&mut random, party, n);
+            let own = kind(&mut random, party, partner, n);
+            let other = kind(&mut random, partner, party, n);
+            apart[usize::from(own.wrapping_sub(other))] += 1;
+        }
+        assert!(apart[0] > 2000);
+        assert!([1, 128, 255].iter().all(|&near| apart[near] > 200));
     }
 }

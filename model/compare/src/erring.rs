@@ -1,6 +1,7 @@
-//! A library that errs in withdrawals, to try whether the parts find it.
+//! Libraries that err, in withdrawals or in kinds, to try whether the parts find
+//! it.
 
-use crate::library::{Library, Modelled, Reply};
+use crate::library::{in_model, Library, Modelled, Reply};
 use crate::wire::{decode, encode, Table};
 use model::{Call, Given, Place, Withdrawal};
 
@@ -46,4 +47,33 @@ fn put_to_idle(table: &Table, party: usize) -> Table {
     let mut desk = decode(table);
     desk.parties[party].place = Place::Idle;
     encode(&desk)
+}
+
+/// The model, but a search of rule 7 does not look at kinds.
+pub struct KindBlind;
+
+impl Library for KindBlind {
+    fn create(&self, n: u8) -> Result<Table, u8> {
+        Modelled.create(n)
+    }
+
+    fn call(&self, table: &Table, call: &Call) -> Reply {
+        let (mut desk, mut blind) = (decode(table), decode(table));
+        for record in &mut blind.parties {
+            let guards = record.guards.iter_mut().chain(&mut record.posted);
+            guards.for_each(|guard| guard.kind = 0);
+        }
+        let answer = in_model(&mut blind, call);
+        match (&answer, call) {
+            (Ok(Given::Place(Some(place))), Call::Step { party }) if place.letter == 'C' => {
+                desk.parties[*party].place = blind.parties[*party].place;
+                for (record, blind) in desk.parties.iter_mut().zip(blind.parties) {
+                    record.wake_count = blind.wake_count;
+                }
+                let table = encode(&desk);
+                Reply { answer, table }
+            }
+            _ => Modelled.call(table, call),
+        }
+    }
 }

@@ -1,10 +1,11 @@
 //! One run from a fresh table: the library, the model and the plain book side
 //! by side, with every clause of demand 3 checked after every call.
 
+use crate::fit::{fit, none_match};
 use crate::library::{both, fresh, line, Library, Reply};
-use crate::reduce::smallest;
+use crate::reduce::{smallest, with_plain_kinds};
 use crate::wire::{encode, Table};
-use model::{Answer, Book, Call, Desk, Entry, Given, Guard, Meeting, OpenOffer, Ticket};
+use model::{Answer, Book, Call, Desk, Entry, Given, Meeting, OpenOffer, Ticket};
 use model::{Moment, Told, Withdrawal};
 use std::collections::BTreeSet;
 
@@ -83,7 +84,10 @@ impl Follow {
                 let own = |offer: &&OpenOffer| *call == Call::Withdraw { party: offer.party };
                 self.withdrew(withdrawal, entry, before.iter().find(own))
             }
-            Given::Set(set) => expect(set != 0 || self.rests(), "at rest two open offers match"),
+            Given::Set(set) => expect(
+                set != 0 || none_match(&self.book.open_offers()),
+                "at rest two open offers match",
+            ),
         }
     }
 
@@ -191,16 +195,6 @@ impl Follow {
             "the open offers are not the book's",
         )
     }
-
-    /// No two open offers match.
-    fn rests(&self) -> bool {
-        let offers = self.book.open_offers();
-        offers.iter().enumerate().all(|(index, one)| {
-            offers[index + 1..]
-                .iter()
-                .all(|other| !offers_match(one, other))
-        })
-    }
 }
 
 /// All that the book is told of an answer.
@@ -213,32 +207,14 @@ fn to_book(answer: &Result<Given, u8>) -> Told {
     }
 }
 
-/// Two guards match: both are enabled, each names the other's party, and one
-/// sends while the other receives. The book finds its guards by the model's own
-/// test; a check by the same test could not fail.
-fn fit(p: usize, own: &Guard, q: usize, other: &Guard) -> bool {
-    own.enabled
-        && other.enabled
-        && own.partner == q
-        && other.partner == p
-        && own.sends() != other.sends()
-}
-
-fn offers_match(one: &OpenOffer, other: &OpenOffer) -> bool {
-    one.guards.iter().any(|own| {
-        other
-            .guards
-            .iter()
-            .any(|theirs| fit(one.party, own, other.party, theirs))
-    })
-}
-
 /// The complaint, with the shortest list of calls that still brings a complaint.
 pub fn told(library: &dyn Library, n: usize, calls: &[Call], text: &str) -> String {
     if replay(library, n, calls).is_ok() {
         return format!("{text}\n(the same calls once more bring no difference)");
     }
-    let short = smallest(calls, |some| replay(library, n, some).is_err());
+    let fails = |some: &[Call]| replay(library, n, some).is_err();
+    let short = smallest(calls, fails);
+    let short = with_plain_kinds(short, |calls| kinds(calls), |some| fails(some));
     let again = replay(library, n, &short).err();
     let mut script = format!("n {n}\n");
     for call in &short {
@@ -251,6 +227,14 @@ pub fn told(library: &dyn Library, n: usize, calls: &[Call], text: &str) -> Stri
         "{text}\nafter {count} calls; these {} give: {again}\n{script}",
         short.len()
     )
+}
+
+fn kinds(calls: &mut [Call]) -> Vec<&mut u8> {
+    let guards = calls.iter_mut().flat_map(|call| match call {
+        Call::Offer { guards, .. } => guards.iter_mut(),
+        _ => [].iter_mut(),
+    });
+    guards.map(|guard| &mut guard.kind).collect()
 }
 
 fn replay(library: &dyn Library, n: usize, calls: &[Call]) -> Result<(), String> {

@@ -1,11 +1,12 @@
-//! Every order of calls, for two and three processes with short lists, who may
-//! each withdraw one offer at any moment: the library is driven along each edge
-//! of the whole graph of states.
+//! Every order of calls, for two and three processes with short lists, most of
+//! whom may withdraw one offer at any moment: the library is driven along each
+//! edge of the whole graph of states.
 
+use crate::fit::ByKinds;
 use crate::follow::{told, Follow};
 use crate::library::Library;
 use crate::part::{Budget, Finding, Verdict};
-use crate::plans::{plans, Plan, PAIRS, TRIPLES};
+use crate::plans::{has_kinds, plans, Plan, PAIRS, PAIRS_BY_KIND, TRIPLES};
 use crate::wire::put_message;
 use model::{Call, Given, Withdrawal};
 use std::collections::HashSet;
@@ -13,8 +14,9 @@ use std::time::Instant;
 
 #[derive(Default)]
 struct Sums {
-    /// The plans that were explored whole, by their kind.
+    /// The plans that were explored whole, by their sort.
     pairs: u64,
+    pairs_by_kind: u64,
     triples: u64,
     longer: u64,
     states: u64,
@@ -23,6 +25,7 @@ struct Sums {
     withdrawn: u64,
     late: u64,
     rests: u64,
+    by_kinds: ByKinds,
 }
 
 pub fn run(library: &dyn Library, budget: Budget) -> Verdict {
@@ -34,30 +37,42 @@ pub fn run(library: &dyn Library, budget: Budget) -> Verdict {
         }
         explore(library, &plan, end, &mut sums).map_err(|text| Finding::new(budget.seed, text))?;
     }
-    Ok(format!(
-        "interleavings: every order of {} of {PAIRS} plans for two processes with a withdrawal each, \
-         {} of {TRIPLES} for three and {} with second offers; {} states, {} calls, {} commits, \
-         {} withdrawals, {} too late, {} states at rest",
-        sums.pairs,
-        sums.triples,
-        sums.longer,
-        sums.states,
-        sums.calls,
-        sums.commits,
-        sums.withdrawn,
-        sums.late,
-        sums.rests
-    ))
+    match sums.by_kinds.missed() {
+        Some(text) if sums.pairs_by_kind == PAIRS_BY_KIND as u64 => {
+            Err(Finding::new(budget.seed, text))
+        }
+        _ => Ok(sums.told()),
+    }
 }
 
 impl Sums {
+    fn told(&self) -> String {
+        format!(
+            "interleavings: every order of {} of {PAIRS} plans for two processes with a withdrawal each, \
+             {} of {PAIRS_BY_KIND} with two kinds and no withdrawal, {} of {TRIPLES} for three and {} with second offers; \
+             {} states, {} calls, {} commits, {} withdrawals, {} too late, {} states at rest; {}",
+            self.pairs,
+            self.pairs_by_kind,
+            self.triples,
+            self.longer,
+            self.states,
+            self.calls,
+            self.commits,
+            self.withdrawn,
+            self.late,
+            self.rests,
+            self.by_kinds.told()
+        )
+    }
+
     fn plans(&self) -> u64 {
-        self.pairs + self.triples + self.longer
+        self.pairs + self.pairs_by_kind + self.triples + self.longer
     }
 
     fn note(&mut self, plan: &Plan) {
         let once = plan.iter().all(|role| role.lists.len() == 1);
         match (once, plan.len()) {
+            (true, 2) if has_kinds(plan) => self.pairs_by_kind += 1,
             (true, 2) => self.pairs += 1,
             (true, _) => self.triples += 1,
             (false, _) => self.longer += 1,
@@ -146,6 +161,7 @@ fn edge(
         may_withdraw: state.may_withdraw.clone(),
         path: state.path,
     };
+    sums.by_kinds.note(&state.follow.desk, call);
     let answer = next.follow.call(library, call)?;
     sums.calls += 1;
     match (answer, call) {
@@ -156,7 +172,10 @@ fn edge(
             sums.withdrawn += 1;
         }
         (Ok(Given::Withdrawal(Withdrawal::TooLate)), _) => sums.late += 1,
-        (Ok(Given::Set(0)), _) => sums.rests += 1,
+        (Ok(Given::Set(0)), _) => {
+            sums.rests += 1;
+            sums.by_kinds.note_rest(&next.follow.book.open_offers());
+        }
         _ => {}
     }
     Ok((next.follow.table != state.follow.table).then_some(next))
@@ -197,6 +216,7 @@ mod tests {
     use crate::erring::{Erring, ERRORS};
     use crate::library::Modelled;
     use crate::plans::{guard, Role};
+    use model::Guard;
     use std::time::Duration;
 
     fn explored(plan: &Plan) -> Sums {
@@ -231,6 +251,20 @@ mod tests {
         let sums = explored(&two(true));
         assert!(sums.pairs == 1 && sums.commits == 0 && sums.rests > 0);
         assert!(sums.withdrawn > 0 && sums.late == 0);
+    }
+
+    #[test]
+    fn kinds_alone_decide_in_every_way() {
+        let mut sums = Sums::default();
+        let end = Instant::now() + Duration::from_secs(600);
+        for kinds in [&[1, 0][..], &[1]] {
+            let mut plan = two(false);
+            let receiving = plan[1].lists[0][0];
+            let of_kind = |&kind: &u8| Guard { kind, ..receiving };
+            plan[1].lists = vec![kinds.iter().map(of_kind).collect()];
+            assert_eq!(explore(&Modelled, &plan, end, &mut sums), Ok(()));
+        }
+        assert_eq!(sums.by_kinds.missed(), None);
     }
 
     #[test]

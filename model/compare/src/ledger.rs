@@ -1,6 +1,7 @@
 //! Answers alone, without table, model or book: each offer ends once, collected
 //! or withdrawn, or is open at the end; what was collected was sent, to the one
-//! who collected it, and nothing is lost or given twice.
+//! who collected it, at a guard of the same kind, and nothing is lost or given
+//! twice.
 
 use crate::wire::put_message;
 use model::{Call, Given, Guard, Message, Outcome, Withdrawal};
@@ -20,8 +21,8 @@ struct Ledger {
     open: BTreeMap<usize, Vec<Guard>>,
     withdrawn: usize,
     late: usize,
-    /// Who sends a message to whom.
-    sent: BTreeMap<Bytes, (usize, usize)>,
+    /// Who sends a message to whom, and of which kind.
+    sent: BTreeMap<Bytes, (usize, usize, u8)>,
     /// Messages that a sender was told to be gone, and that someone received.
     gone: BTreeSet<Bytes>,
     received: BTreeSet<Bytes>,
@@ -64,8 +65,8 @@ pub fn check(history: &History) -> Result<Ends, String> {
 impl Ledger {
     fn offered(&mut self, party: usize, guards: &[Guard]) -> Result<(), String> {
         for guard in guards.iter().filter(|guard| guard.sends()) {
-            self.sent
-                .insert(bytes(guard.message()), (party, guard.partner));
+            let way = (party, guard.partner, guard.kind);
+            self.sent.insert(bytes(guard.message()), way);
         }
         match self.open.insert(party, guards.to_vec()) {
             None => Ok(()),
@@ -107,8 +108,8 @@ impl Ledger {
             return Err(format!("{party} sent and collects {outcome:?}"));
         }
         let way = match guard.sends() {
-            true => (party, outcome.partner),
-            false => (outcome.partner, party),
+            true => (party, outcome.partner, guard.kind),
+            false => (outcome.partner, party, guard.kind),
         };
         if self.sent.get(&key) != Some(&way) {
             return Err(format!(
@@ -137,6 +138,7 @@ mod tests {
         let guards = vec![Guard {
             enabled: true,
             partner,
+            kind: 0,
             action,
         }];
         (Call::Offer { party, guards }, Ok(Given::Ticket(Ticket(0))))
@@ -190,6 +192,16 @@ mod tests {
     fn a_message_that_nobody_sent_is_found() {
         let mut history = handed_over();
         history[2] = collect(1, 0, Message::Whole(8));
+        assert!(check(&history).is_err());
+    }
+
+    #[test]
+    fn a_message_of_another_kind_is_found() {
+        let mut history = handed_over();
+        let (Call::Offer { guards, .. }, _) = &mut history[1] else {
+            panic!("the receiver's offer comes second");
+        };
+        guards[0].kind = 255;
         assert!(check(&history).is_err());
     }
 

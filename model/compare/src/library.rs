@@ -112,11 +112,19 @@ fn same(given: &Table, expected: &Table) -> Result<(), String> {
     }
 }
 
-/// A call as a script writes it.
+/// A call as a script writes it, with kind 0 left out.
 pub fn line(call: &Call) -> String {
+    line_with(call, |guard| parts(guard).concat())
+}
+
+/// A call with its guards written in a way of their own.
+pub fn line_with(call: &Call, mut text: impl FnMut(&Guard) -> String) -> String {
     match call {
         Call::Offer { party, guards } => {
-            let guards: String = guards.iter().map(guard_text).collect();
+            let guards: String = guards
+                .iter()
+                .map(|guard| format!(" {}", text(guard)))
+                .collect();
             format!("o {party}{guards}")
         }
         Call::Step { party } => format!("s {party}"),
@@ -126,11 +134,17 @@ pub fn line(call: &Call) -> String {
     }
 }
 
-fn guard_text(guard: &Guard) -> String {
+/// What a guard's text is made of: its partner, behind `-` if it is disabled; what
+/// it does; and its kind, which is empty if it is 0.
+pub fn parts(guard: &Guard) -> [String; 3] {
     let sign = if guard.enabled { "" } else { "-" };
-    let partner = guard.partner;
-    match guard.action {
-        Action::Receive => format!(" {sign}{partner}?"),
-        Action::Send(message) => format!(" {sign}{partner}!{message}"),
-    }
+    let action = match guard.action {
+        Action::Receive => "?".to_string(),
+        Action::Send(message) => format!("!{message}"),
+    };
+    let kind = match guard.kind {
+        0 => String::new(),
+        kind => format!(":{kind}"),
+    };
+    [format!("{sign}{}", guard.partner), action, kind]
 }

@@ -11,6 +11,7 @@ mod damaged;
 mod draw;
 #[cfg(test)]
 mod erring;
+mod fit;
 mod follow;
 mod fuzz;
 mod interleavings;

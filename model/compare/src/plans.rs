@@ -6,6 +6,7 @@ use model::{Action, Guard, Message};
 
 /// How many plans of one offer each there are.
 pub const PAIRS: usize = 14 * 14;
+pub const PAIRS_BY_KIND: usize = 10 * 20 - 6 * 6;
 pub const TRIPLES: usize = 20 * 20 * 20;
 
 /// The lists that a process offers one after the other, and whether it may
@@ -19,17 +20,19 @@ pub struct Role {
 /// The role of each process.
 pub type Plan = Vec<Role>;
 
-/// First every plan for two processes of one offer each, and of one guard that
-/// each offers twice; both may withdraw. Then every plan of one offer each for
-/// three, shuffled, some of whom may withdraw, in turn with plans of further
-/// offers, which have no end.
+/// First every plan for two processes of one offer each, of two kinds, and of kind
+/// 0, where both may withdraw, and of one guard that each offers twice. Then every
+/// plan of one offer each for three, shuffled, some of whom may withdraw, with
+/// drawn kinds, in turn with plans of further offers, which have no end.
 pub fn plans(seed: u64) -> impl Iterator<Item = Plan> {
     let mut random = Random::new(seed);
-    let two = every_pair().into_iter().chain(every_pair_twice());
+    let two = [every_pair_by_kind(), every_pair(), every_pair_twice()].concat();
+    let two = two.into_iter().chain(every_pair_twice_by_kind());
     let mut three = every_triple();
     random.shuffle(&mut three);
     for role in three.iter_mut().flatten() {
         role.withdraws = random.one_in(2);
+        draw_kinds(&mut random, &mut role.lists[0]);
     }
     let longer = std::iter::from_fn(move || Some(longer_plan(&mut random)));
     two.chain(alternate(three, longer))
@@ -52,15 +55,53 @@ fn alternate(
 }
 
 fn every_pair() -> Vec<Plan> {
-    pairs([0, 1].map(|party| lists(party, 2, true)), 1)
+    pairs([0, 1].map(|party| lists(&guards(party, 2, true))), 1)
+}
+
+/// With enabled guards of kinds 0 and 1, and not of kind 0 alone. The first guard
+/// of process 0 has kind 0: the kinds exchanged, the rest would be the same again.
+/// Nobody withdraws, which would bring no further search.
+fn every_pair_by_kind() -> Vec<Plan> {
+    let both = [0, 1].map(|party| {
+        let guards = guards(party, 2, false).into_iter();
+        let guards = guards.flat_map(|guard| [0, 1].map(|kind| Guard { kind, ..guard }));
+        lists(&guards.collect::<Vec<_>>())
+    });
+    let mut plans = pairs(both, 1);
+    plans.retain(|plan| plan[0].lists[0][0].kind == 0 && has_kinds(plan));
+    for role in plans.iter_mut().flatten() {
+        role.withdraws = false;
+    }
+    plans
 }
 
 fn every_pair_twice() -> Vec<Plan> {
-    let mut both = [0, 1].map(|party| lists(party, 2, false));
-    for lists in &mut both {
-        lists.retain(|list| list.len() == 1);
+    let one = |party| guards(party, 2, false).into_iter().map(|guard| vec![guard]);
+    pairs([0, 1].map(|party| one(party).collect()), 2)
+}
+
+/// With guards that match but for their kinds. Process 0 has kind 0 and then 1,
+/// process 1 the same or the reverse.
+fn every_pair_twice_by_kind() -> Vec<Plan> {
+    let mut plans = Vec::new();
+    for plan in every_pair_twice() {
+        if plan[0].lists[0][0].sends() == plan[1].lists[0][0].sends() {
+            continue;
+        }
+        for first in [0, 1] {
+            let mut plan = plan.clone();
+            plan[0].lists[1][0].kind = 1;
+            plan[1].lists[first][0].kind = 1;
+            plans.push(plan);
+        }
     }
-    pairs(both, 2)
+    plans
+}
+
+/// Whether a guard of the plan has another kind than 0.
+pub fn has_kinds(plan: &Plan) -> bool {
+    let mut guards = plan.iter().flat_map(|role| role.lists.concat());
+    guards.any(|guard| guard.kind != 0)
 }
 
 /// Each list of process 0 with each one of process 1, offered so many times.
@@ -75,7 +116,9 @@ fn pairs(both: [Vec<Vec<Guard>>; 2], times: usize) -> Vec<Plan> {
 }
 
 fn every_triple() -> Vec<Plan> {
-    let all: Vec<_> = (0..3).map(|party| lists(party, 3, false)).collect();
+    let all: Vec<_> = (0..3)
+        .map(|party| lists(&guards(party, 3, false)))
+        .collect();
     let mut plans = Vec::new();
     for one in &all[0] {
         for two in &all[1] {
@@ -109,11 +152,12 @@ fn longer_plan(random: &mut Random) -> Plan {
     let both = n == 2 && random.one_in(2);
     (0..n)
         .map(|party| {
-            let choices = lists(party, n, n == 2);
+            let choices = lists(&guards(party, n, n == 2));
             let count = if both || party == twice { 2 } else { 1 };
             let mut draw = |offer| {
                 let mut list = choices[random.below(choices.len())].clone();
                 number(&mut list, party, offer);
+                draw_kinds(random, &mut list);
                 list
             };
             Role {
@@ -124,8 +168,15 @@ fn longer_plan(random: &mut Random) -> Plan {
         .collect()
 }
 
-/// Every list of one or two guards with an enabled one among them.
-fn lists(party: usize, n: usize, with_disabled: bool) -> Vec<Vec<Guard>> {
+/// Gives one guard in four kind 1.
+fn draw_kinds(random: &mut Random, list: &mut [Guard]) {
+    for guard in list {
+        guard.kind = u8::from(random.one_in(4));
+    }
+}
+
+/// Every guard of kind 0 to another process.
+fn guards(party: usize, n: usize, with_disabled: bool) -> Vec<Guard> {
     let mut guards = Vec::new();
     for partner in (0..n).filter(|&other| other != party) {
         for sends in [false, true] {
@@ -135,8 +186,13 @@ fn lists(party: usize, n: usize, with_disabled: bool) -> Vec<Vec<Guard>> {
             }
         }
     }
+    guards
+}
+
+/// Every list of one or two of these guards with an enabled one among them.
+fn lists(guards: &[Guard]) -> Vec<Vec<Guard>> {
     let mut lists: Vec<Vec<Guard>> = guards.iter().map(|&guard| vec![guard]).collect();
-    for &one in &guards {
+    for &one in guards {
         lists.extend(guards.iter().map(|&other| vec![one, other]));
     }
     lists.retain(|list| list.iter().any(|guard| guard.enabled));
@@ -147,6 +203,7 @@ pub fn guard(partner: usize, sends: bool, enabled: bool) -> Guard {
     Guard {
         enabled,
         partner,
+        kind: 0,
         action: match sends {
             true => Action::Send(Message::Nothing),
             false => Action::Receive,
@@ -171,7 +228,9 @@ mod tests {
     #[test]
     fn the_plans_are_all_there() {
         assert_eq!(every_pair().len(), PAIRS);
+        assert_eq!(every_pair_by_kind().len(), PAIRS_BY_KIND);
         assert_eq!(every_pair_twice().len(), 2 * 2);
+        assert_eq!(every_pair_twice_by_kind().len(), 2 * 2);
         assert_eq!(every_triple().len(), TRIPLES);
     }
 }

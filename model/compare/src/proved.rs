@@ -68,7 +68,7 @@ enum Said {
     Refused(u8),
 }
 
-/// Reads an answer. The library always writes a known kind, and 0 where such an
+/// Reads an answer. The library always writes a known variant, and 0 where such an
 /// answer says nothing.
 fn read(answer: &[u8; ANSWER_BYTES]) -> Said {
     assert!(!has_stray(answer), "the library answers {answer:?}");
@@ -93,16 +93,16 @@ fn read(answer: &[u8; ANSWER_BYTES]) -> Said {
     })
 }
 
-/// True if a byte is not 0 where an answer of its kind says nothing.
+/// True if a byte is not 0 where an answer of its variant says nothing.
 fn has_stray(answer: &[u8; ANSWER_BYTES]) -> bool {
     let used = used(answer[ANSWER_VARIANT]);
     let mut unused = (ANSWER_FIRST..ANSWER_BYTES).filter(|at| !used.contains(at));
     unused.any(|at| answer[at] != 0)
 }
 
-/// Where an answer of this kind says something past the kind.
-fn used(kind: u8) -> Range<usize> {
-    match kind {
+/// Where an answer of this variant says something past the variant.
+fn used(variant: u8) -> Range<usize> {
+    match variant {
         OFFERED | RUNNABLE => ANSWER_WORD..ANSWER_BYTES,
         MOVED => ANSWER_FIRST..ANSWER_MESSAGE,
         COLLECTED => ANSWER_FIRST..ANSWER_WORD,
@@ -123,15 +123,17 @@ fn place(letter: char, index: usize) -> Answer {
 #[cfg(test)]
 mod tests {
     use super::*;
-    use crate::rendezvous::{receives, BEGUN_BYTES, HEAD_BYTES, LIMIT, LINE_BYTES, RECORD_PLACE};
+    use crate::plans::guard;
+    use crate::rendezvous::{receives, BEGUN_BYTES, GUARD_KIND, HEAD_BYTES, LIMIT, LINE_BYTES};
+    use crate::rendezvous::{RECORD_OWN, RECORD_PLACE, RECORD_POSTED};
     use crate::rendezvous::{SESSION_BEGUN, SESSION_BYTES, SESSION_TABLE, TABLE_BYTES, WORD_BYTES};
     use model::Message;
 
-    /// The bytes of an answer; `start` is its kind, first and second.
+    /// The bytes of an answer; `start` is its variant, first and second.
     fn answer(start: [u8; 3], message: &[u8], word: [u8; WORD_BYTES]) -> [u8; ANSWER_BYTES] {
         let mut bytes = [0; ANSWER_BYTES];
-        let [kind, first, second] = start;
-        bytes[ANSWER_VARIANT] = kind;
+        let [variant, first, second] = start;
+        bytes[ANSWER_VARIANT] = variant;
         bytes[ANSWER_FIRST] = first;
         bytes[ANSWER_SECOND] = second;
         bytes[ANSWER_MESSAGE..][..message.len()].copy_from_slice(message);
@@ -175,10 +177,10 @@ mod tests {
 
     #[test]
     fn a_stray_byte_in_an_answer_is_found() {
-        for kind in [
+        for variant in [
             MADE, OFFERED, MOVED, UNCHANGED, REFUSED, WITHDRAWN, TOO_LATE,
         ] {
-            let with_message = answer([kind, 0, 0], &[1], [0; WORD_BYTES]);
+            let with_message = answer([variant, 0, 0], &[1], [0; WORD_BYTES]);
             assert!(has_stray(&with_message));
         }
     }
@@ -228,6 +230,25 @@ mod tests {
         let reply = Proved.call(&table, &Call::Withdraw { party: 1 });
         assert_eq!(reply.answer, Err(14));
         assert_eq!(reply.table, table);
+    }
+
+    #[test]
+    fn the_library_keeps_any_kind() {
+        let table = Proved.create(2).expect("two is a good number");
+        for kind in 0..=255 {
+            let guards = vec![Guard {
+                kind,
+                ..guard(1, false, true)
+            }];
+            let mut reply = Proved.call(&table, &Call::Offer { party: 0, guards });
+            // To A, P and O: the list is posted.
+            for _ in 0..3 {
+                reply = Proved.call(&reply.table, &Call::Step { party: 0 });
+            }
+            let record = &reply.table.bytes()[HEAD_BYTES..];
+            assert_eq!(record[RECORD_OWN + GUARD_KIND], kind);
+            assert_eq!(record[RECORD_POSTED + GUARD_KIND], kind);
+        }
     }
 
     fn untouched(bytes: &[u8]) -> bool {

@@ -1,6 +1,7 @@
 //! Random runs from fresh tables of 2 to 32 processes, call by call.
 
 use crate::draw;
+use crate::fit::ByKinds;
 use crate::follow::{told, Follow};
 use crate::library::Library;
 use crate::pace::Pace;
@@ -23,10 +24,19 @@ struct Sums {
     withdrawn: u64,
     late: u64,
     rests: u64,
+    by_kinds: ByKinds,
 }
 
 pub fn run(library: &dyn Library, budget: Budget) -> Verdict {
     let mut sums = Sums::default();
+    runs(library, budget, &mut sums)?;
+    match sums.by_kinds.missed() {
+        Some(text) => Err(Finding::new(budget.seed, text)),
+        None => Ok(sums.told()),
+    }
+}
+
+fn runs(library: &dyn Library, budget: Budget, sums: &mut Sums) -> Result<(), Finding> {
     for seed in budget.seeds() {
         // One seed after another goes through every number of processes.
         let n = 2 + (seed % 31) as usize;
@@ -36,26 +46,33 @@ pub fn run(library: &dyn Library, budget: Budget) -> Verdict {
             pace: Pace::default(),
             sociable: (seed / 31) % 4 != 0,
             calls: Vec::new(),
-            sums: &mut sums,
+            sums,
         };
         if let Err(text) = run.all(n) {
             let calls = run.calls;
             return Err(Finding::new(seed, told(library, n, &calls, &text)));
         }
     }
-    Ok(format!(
-        "reached tables: {} runs, {} of the 31 numbers of processes, {} calls ({} refused), \
-         {} rendezvous, {} collections, {} offers withdrawn, {} too late, {} times at rest",
-        sums.runs,
-        sums.sizes.len(),
-        sums.calls,
-        sums.refused,
-        sums.rendezvous,
-        sums.collections,
-        sums.withdrawn,
-        sums.late,
-        sums.rests
-    ))
+    Ok(())
+}
+
+impl Sums {
+    fn told(&self) -> String {
+        format!(
+            "reached tables: {} runs, {} of the 31 numbers of processes, {} calls ({} refused), \
+             {} rendezvous, {} collections, {} offers withdrawn, {} too late, {} times at rest; {}",
+            self.runs,
+            self.sizes.len(),
+            self.calls,
+            self.refused,
+            self.rendezvous,
+            self.collections,
+            self.withdrawn,
+            self.late,
+            self.rests,
+            self.by_kinds.told()
+        )
+    }
 }
 
 struct Run<'a> {
@@ -108,6 +125,7 @@ impl Run<'_> {
     fn call(&mut self, follow: &mut Follow, call: Call) -> Result<Option<Given>, String> {
         self.calls.push(call);
         let call = self.calls.last().expect("one was just put there");
+        self.sums.by_kinds.note(&follow.desk, call);
         let answer = follow.call(self.library, call)?;
         self.sums.calls += 1;
         match answer {
@@ -128,6 +146,7 @@ impl Run<'_> {
             };
             if set == 0 {
                 self.sums.rests += 1;
+                self.sums.by_kinds.note_rest(&follow.book.open_offers());
                 return Ok(());
             }
             let mut movers: Vec<usize> = (0..32).filter(|p| set >> p & 1 == 1).collect();
@@ -143,22 +162,23 @@ impl Run<'_> {
 #[cfg(test)]
 mod tests {
     use super::*;
-    use crate::erring::{Erring, ERRORS};
+    use crate::erring::{Erring, KindBlind, ERRORS};
     use crate::library::{Modelled, Reply};
     use crate::wire::Table;
     use model::Message;
     use std::time::Duration;
 
-    fn one_run(library: &dyn Library, seed: u64) -> Verdict {
+    fn one_run(library: &dyn Library, seed: u64) -> Result<Sums, Finding> {
         let time = Duration::ZERO;
-        run(library, Budget { seed, time })
+        let mut sums = Sums::default();
+        runs(library, Budget { seed, time }, &mut sums).map(|()| sums)
     }
 
     #[test]
     fn the_model_agrees_with_itself() {
         for seed in 31..36 {
-            let summary = one_run(&Modelled, seed).map_err(|finding| finding.text);
-            assert!(summary.is_ok_and(|line| !line.contains(" 0 rendezvous")));
+            let sums = one_run(&Modelled, seed).map_err(|finding| finding.text);
+            assert!(sums.is_ok_and(|sums| sums.rendezvous > 0));
         }
     }
 
@@ -199,5 +219,12 @@ mod tests {
             let text = found.expect("a difference").text;
             assert!(text.contains("\nw ") && text.lines().count() < 25, "{text}");
         }
+    }
+
+    #[test]
+    fn searches_that_do_not_look_at_kinds_are_found() {
+        let found = (31..62).find_map(|seed| one_run(&KindBlind, seed).err());
+        let text = found.expect("a difference").text;
+        assert!(text.contains(':') && text.lines().count() < 25, "{text}");
     }
 }

@@ -1,4 +1,5 @@
-//! Making a failing input smaller: parts are left out as long as it fails.
+//! Making a failing input smaller: parts are left out, and kinds become 0, as long
+//! as it fails.
 
 use std::time::{Duration, Instant};
 
@@ -31,9 +32,31 @@ pub fn smallest<T: Clone>(items: &[T], mut fails: impl FnMut(&[T]) -> bool) -> V
     }
 }
 
+/// The same with kind 0 where it still fails with it: in all guards at once, so
+/// that those that match still do, or in one after the other.
+pub fn with_plain_kinds<T: Clone>(
+    given: T,
+    kinds: impl Fn(&mut T) -> Vec<&mut u8>,
+    mut fails: impl FnMut(&T) -> bool,
+) -> T {
+    let mut kept = given;
+    let count = kinds(&mut kept).len();
+    let one_by_one = (0..count).map(|at| at..at + 1);
+    for some in std::iter::once(0..count).chain(one_by_one) {
+        let mut changed = kept.clone();
+        for kind in &mut kinds(&mut changed)[some] {
+            **kind = 0;
+        }
+        if fails(&changed) {
+            kept = changed;
+        }
+    }
+    kept
+}
+
 #[cfg(test)]
 mod tests {
-    use super::smallest;
+    use super::{smallest, with_plain_kinds};
 
     #[test]
     fn only_what_is_needed_is_left() {
@@ -45,6 +68,18 @@ mod tests {
     #[test]
     fn an_input_that_fails_without_any_item_becomes_empty() {
         assert_eq!(smallest(&[1, 2, 3], |_| true), []);
+    }
+
+    fn plain(kinds: [u8; 4], fails: impl FnMut(&[u8; 4]) -> bool) -> [u8; 4] {
+        with_plain_kinds(kinds, |kinds| kinds.iter_mut().collect(), fails)
+    }
+
+    #[test]
+    fn kinds_become_0_together_or_one_by_one() {
+        let equal = |kinds: &[u8; 4]| kinds[0] == kinds[3];
+        assert_eq!(plain([7, 8, 9, 7], equal), [0; 4]);
+        let apart = |kinds: &[u8; 4]| kinds[0] != kinds[3];
+        assert_eq!(plain([7, 8, 9, 5], apart), [0, 0, 0, 5]);
     }
 
     #[test]

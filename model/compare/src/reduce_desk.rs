@@ -1,5 +1,6 @@
 //! Making a failing pair of desk and call smaller, value by value.
 
+use crate::reduce::with_plain_kinds;
 use model::{Call, Desk, Message, Party, Ticket};
 
 type Case = (Desk, Call);
@@ -14,7 +15,7 @@ pub fn reduce(case: Case, fails: impl Fn(&Desk, &Call) -> bool) -> Case {
             .find(|case| *case != smallest && fails(&case.0, &case.1));
         match better {
             Some(case) => smallest = case,
-            None => return smallest,
+            None => return with_plain_kinds(smallest, kinds, |case| fails(&case.0, &case.1)),
         }
     }
 }
@@ -74,6 +75,17 @@ fn simpler_records(record: &Party) -> Vec<Party> {
         with(&|party| quiet(&mut party.posted[at]));
     }
     records
+}
+
+fn kinds((desk, call): &mut Case) -> Vec<&mut u8> {
+    let parties = desk.parties.iter_mut();
+    let lists = parties.flat_map(|party| [&mut party.guards, &mut party.posted]);
+    let offered = match call {
+        Call::Offer { guards, .. } => Some(guards),
+        _ => None,
+    };
+    let guards = lists.chain(offered).flatten();
+    guards.map(|guard| &mut guard.kind).collect()
 }
 
 fn quiet(guard: &mut model::Guard) {

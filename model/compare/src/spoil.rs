@@ -3,7 +3,7 @@
 use crate::random::Random;
 
 /// Bytes that a line might be confused by.
-const BYTES: &[u8] = b" \n\r\t\0-+?!0123456789wrlnoscmxABCDEFabcdef.\x7f\x80\xff";
+const BYTES: &[u8] = b" \n\r\t\0-+?!:0123456789wrlnoscmxABCDEFabcdef.\x7f\x80\xff";
 
 /// Some changes here and there.
 pub fn spoil(random: &mut Random, script: &mut Vec<u8>) {
@@ -49,7 +49,7 @@ fn swap_lines(random: &mut Random, script: &mut Vec<u8>) {
     *script = lines.concat();
 }
 
-/// Bytes of any kind, or of the kinds that scripts have.
+/// Any bytes, or such as scripts have.
 pub fn noise(random: &mut Random) -> Vec<u8> {
     let known = random.one_in(2);
     (0..random.below(600))

@@ -1,6 +1,8 @@
-//! How often each refusal, each rule, each withdrawal and each odd case was hit.
+//! How often each refusal, each rule, each withdrawal, each case that kinds decide
+//! and each odd case was hit.
 
 use crate::damage::{Point, POINTS};
+use crate::fit::{search, Search};
 use crate::library::Reply;
 use model::{Answer, Call, Desk, Given, Guard, Party, Place, Withdrawal};
 use std::collections::BTreeMap;
@@ -20,21 +22,31 @@ const WITHDRAWALS: [(&str, [&str; 2]); 4] = [
     ("IM", [TURNED_AWAY, TURNED_AWAY]),
 ];
 
+// What kinds alone decide.
+const PASSED_OVER: &str = "rule 7 behind a guard that matches but for its kind";
+const FOUND_NONE: &str = "rule 8 where a guard matches but for its kind";
+const KINDS_REPLACED: &str = "rule 10 over a list that differs in kinds alone";
+
 // Odd cases that only damaged tables have.
 const EQUAL_TICKETS: &str = "rule 6 with equal tickets";
 const DISABLED_OWN: &str = "rule 8 with a disabled own guard";
 const TWO_RECEIVING: &str = "rule 9 with two receiving guards";
 const TWO_SENDING: &str = "rule 9 with two sending guards";
+const TWO_KINDS: &str = "rule 9 with guards of two kinds";
 const OLD_SIGNAL: &str = "rule 9 over an old signal";
 const NAN_HANDED_OVER: &str = "rule 9 hands over a NaN";
 const STILL_ACCEPTING: &str = "rule 13 with wake count 0";
 const SIGNAL_STAYS: &str = "withdrawn under an old signal";
 
-const ODD: [&str; 8] = [
+const CASES: [&str; 12] = [
+    PASSED_OVER,
+    FOUND_NONE,
+    KINDS_REPLACED,
     EQUAL_TICKETS,
     DISABLED_OWN,
     TWO_RECEIVING,
     TWO_SENDING,
+    TWO_KINDS,
     OLD_SIGNAL,
     NAN_HANDED_OVER,
     STILL_ACCEPTING,
@@ -51,9 +63,9 @@ impl Tally {
     pub fn new() -> Tally {
         let refusals = REFUSALS.iter().map(|&number| refusal_name(number));
         let rules = (1..=15).map(rule_name);
-        let odd = ODD.iter().map(|name| name.to_string());
+        let cases = CASES.iter().map(|name| name.to_string());
         let points = POINTS.iter().map(point_name);
-        let names = refusals.chain(rules).chain(odd).chain(points);
+        let names = refusals.chain(rules).chain(cases).chain(points);
         let names = names.chain(withdrawals());
         Tally {
             calls: 0,
@@ -83,7 +95,7 @@ impl Tally {
             (Ok(Given::Place(answer)), Call::Step { party }) => {
                 let rule = rule_of(before.parties[*party].place, *answer);
                 self.hit(rule_name(rule));
-                if let Some(name) = odd_case(before, *party, rule) {
+                if let Some(name) = case_of(before, *party, rule) {
                     self.hit(name.to_string());
                 }
             }
@@ -180,21 +192,36 @@ fn rule_of(place: Place, answer: Option<Answer>) -> u8 {
     }
 }
 
-fn odd_case(desk: &Desk, party: usize, rule: u8) -> Option<&'static str> {
+/// What is to be noted of a step by this rule, besides the rule.
+fn case_of(desk: &Desk, party: usize, rule: u8) -> Option<&'static str> {
     let record = &desk.parties[party];
     match record.place {
         Place::Scanning(own) => {
             let partner = &desk.parties[record.guards[own].partner];
             (rule == 6 && partner.ticket == record.ticket).then_some(EQUAL_TICKETS)
         }
-        Place::Trying(own) => (!record.guards[own].enabled).then_some(DISABLED_OWN),
+        Place::Trying(own) if !record.guards[own].enabled => Some(DISABLED_OWN),
+        Place::Trying(_) => search(desk, party).map(|search| match search {
+            Search::PassesOver => PASSED_OVER,
+            Search::FindsNone => FOUND_NONE,
+        }),
         Place::Committed { own, kept } => {
             let own = record.guards[own];
             odd_delivery(&own, &desk.parties[own.partner], kept)
         }
+        Place::Posting => kinds_alone_differ(record).then_some(KINDS_REPLACED),
         Place::Waiting => (rule == 13 && record.wake_count == 0).then_some(STILL_ACCEPTING),
         _ => None,
     }
+}
+
+/// True if the posted list is the own one but for kinds.
+fn kinds_alone_differ(record: &Party) -> bool {
+    let plain = |list: &[Guard]| -> Vec<Guard> {
+        let guards = list.iter();
+        guards.map(|&guard| Guard { kind: 0, ..guard }).collect()
+    };
+    record.posted != record.guards && plain(&record.posted) == plain(&record.guards)
 }
 
 fn odd_delivery(own: &Guard, partner: &Party, kept: usize) -> Option<&'static str> {
@@ -205,6 +232,7 @@ fn odd_delivery(own: &Guard, partner: &Party, kept: usize) -> Option<&'static st
         (false, false) => Some(TWO_RECEIVING),
         (true, true) => Some(TWO_SENDING),
         _ if partner.signal.is_some() => Some(OLD_SIGNAL),
+        _ if own.kind != kept.kind => Some(TWO_KINDS),
         _ => None,
     }
 }

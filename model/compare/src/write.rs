@@ -1,10 +1,10 @@
 //! Random scripts: good sessions, odd lines, and long ones.
 
 use crate::draw;
-use crate::library::line;
+use crate::library::{line, line_with, parts};
 use crate::pace::Pace;
 use crate::random::Random;
-use model::{Call, Desk, Place};
+use model::{Call, Desk, Guard, Place};
 
 /// Numbers around every bound of N and P, good and bad.
 const NUMBERS: [&str; 18] = [
@@ -48,6 +48,22 @@ const WHOLES: [&str; 16] = [
     "+1",
 ];
 
+/// What may not stand behind a guard.
+const BAD_KINDS: [&str; 12] = [
+    ":",
+    ":00",
+    ":01",
+    ":256",
+    ":1000",
+    ":4294967296",
+    ":-1",
+    ":+1",
+    ":1:2",
+    "::1",
+    ":a",
+    " :1",
+];
+
 /// Lines that are nearly commands; `w` begins a message as well.
 const NO_COMMANDS: [&str; 8] = ["", "w", "w0", "w-1", "w 0 1", "w 0 1?", "W 0", "w w0"];
 
@@ -66,6 +82,7 @@ fn session(random: &mut Random) -> Vec<u8> {
         _ => 2 + random.below(4),
     };
     let sociable = !random.one_in(3);
+    let with_kinds = !random.one_in(3);
     let mut pace = Pace::default();
     let mut desk = Desk::new(n).expect("2 to 32 parties");
     let mut script = format!("n {n}\n").into_bytes();
@@ -74,13 +91,35 @@ fn session(random: &mut Random) -> Vec<u8> {
             script.extend(odd_line(random));
         }
         let party = pace.party(random, &desk);
-        let call = next_call(random, &desk, party, sociable);
+        let mut call = next_call(random, &desk, party, sociable);
+        if !with_kinds {
+            forget_kinds(&mut call);
+        }
         // Whether it is refused is for the two programs to say.
         let _ = call.on(&mut desk);
-        script.extend(line(&call).into_bytes());
+        let line = match with_kinds {
+            true => line_with(&call, |guard| written(random, guard)),
+            false => line(&call),
+        };
+        script.extend(line.into_bytes());
         script.push(b'\n');
     }
     script
+}
+
+fn forget_kinds(call: &mut Call) {
+    if let Call::Offer { guards, .. } = call {
+        guards.iter_mut().for_each(|guard| guard.kind = 0);
+    }
+}
+
+/// A guard's text; its kind, if it is 0, is left out or not.
+fn written(random: &mut Random, guard: &Guard) -> String {
+    let text = parts(guard).concat();
+    match guard.kind == 0 && random.one_in(2) {
+        true => text + ":0",
+        false => text,
+    }
 }
 
 fn next_call(random: &mut Random, desk: &Desk, party: usize, sociable: bool) -> Call {
@@ -111,7 +150,7 @@ fn odd_lines(random: &mut Random) -> Vec<u8> {
 /// A line of well-formed parts that need not fit together.
 fn odd_line(random: &mut Random) -> Vec<u8> {
     let number = random.pick(&NUMBERS);
-    let mut line = match random.below(9) {
+    let mut line = match random.below(10) {
         0 => format!("n {number}"),
         1 => format!("s {number}"),
         2 => format!("c {number}"),
@@ -119,6 +158,7 @@ fn odd_line(random: &mut Random) -> Vec<u8> {
         4 => "m".to_string(),
         5 => random.pick(&NO_COMMANDS).to_string(),
         6 => return long_line(random),
+        7 => crooked_offer(random),
         _ => {
             let guards: String = (0..random.below(11)).map(|_| odd_guard(random)).collect();
             format!("o {number}{guards}")
@@ -126,6 +166,27 @@ fn odd_line(random: &mut Random) -> Vec<u8> {
     };
     line.push('\n');
     line.into_bytes()
+}
+
+/// An offer that is malformed by the kind of one guard alone.
+fn crooked_offer(random: &mut Random) -> String {
+    let guards = draw::sociable_list(random, 0, 4);
+    let mut texts: Vec<String> = guards.iter().map(|guard| parts(guard).concat()).collect();
+    let at = random.below(guards.len());
+    texts[at] = crooked(random, &guards[at]);
+    format!("o 0 {}", texts.join(" "))
+}
+
+/// A guard whose kind is malformed or stands where it may not.
+fn crooked(random: &mut Random, guard: &Guard) -> String {
+    let [partner, action, _] = parts(guard);
+    let (sign, message) = action.split_at(1);
+    match random.below(6) {
+        0 => format!(":3{partner}{action}"),
+        1 => format!("{partner}:3{action}"),
+        2 if guard.sends() => format!("{partner}{sign}:3{message}"),
+        _ => format!("{partner}{action}{}", random.pick(&BAD_KINDS)),
+    }
 }
 
 fn odd_guard(random: &mut Random) -> String {
@@ -141,7 +202,11 @@ fn odd_guard(random: &mut Random) -> String {
             .pick(&["!", "?0", "!00", "!r", "!x", "", "!w", "?!0"])
             .to_string(),
     };
-    format!(" {sign}{partner}{action}")
+    let kind = match random.one_in(4) {
+        true => format!(":{}", random.pick(&NUMBERS)),
+        false => String::new(),
+    };
+    format!(" {sign}{partner}{action}{kind}")
 }
 
 /// Hexadecimal digits, now and then one too few, too many or in upper case.
@@ -151,15 +216,15 @@ fn digits(random: &mut Random, count: usize) -> String {
         1 => count + 1,
         _ => count,
     };
-    let kind = random.below(12);
+    let form = random.below(12);
     let text: String = (0..count.div_ceil(8))
-        .map(|_| match kind {
+        .map(|_| match form {
             0 => format!("{:08x}", random.pick(&draw::NANS)),
             _ => format!("{:08x}", random.bits()),
         })
         .collect();
     let text = text + "0";
-    match kind {
+    match form {
         1 => text[..count].to_uppercase(),
         _ => text[..count].to_string(),
     }
@@ -178,7 +243,15 @@ fn long_line(random: &mut Random) -> Vec<u8> {
         2 => b"w 0".to_vec(),
         _ => b"s 0".to_vec(),
     };
-    let filler: &[u8] = random.pick(&[b" 1?" as &[u8], b" ", b"0", b"x", b"\0", b" -1!0"]);
+    let filler: &[u8] = random.pick(&[
+        b" 1?" as &[u8],
+        b" ",
+        b"0",
+        b"x",
+        b"\0",
+        b" -1!0",
+        b" 1?:255",
+    ]);
     while line.len() < length {
         line.extend(filler);
     }
@@ -199,6 +272,28 @@ mod tests {
         for wanted in [199, 200, 201] {
             assert!(lengths.contains(&wanted));
         }
+    }
+
+    #[test]
+    fn a_crooked_offer_is_malformed_and_good_without_its_kinds() {
+        let mut random = Random::new(6);
+        let mut kinds = BTreeSet::new();
+        for _ in 0..2000 {
+            let guard = draw::sociable_list(&mut random, 0, 4)[0];
+            let text = crooked(&mut random, &guard);
+            let script = format!("n 4\no 0 {text}\n");
+            assert_eq!(
+                model::script::run(script.as_bytes()),
+                b"n 4\nx 8\n",
+                "{text}"
+            );
+            let [partner, action, _] = parts(&guard);
+            kinds.insert(text.replace(&partner, "P").replace(&action, "?"));
+        }
+        for kind in BAD_KINDS {
+            assert!(kinds.contains(&format!("P?{kind}")), "{kind}");
+        }
+        assert!(kinds.contains("P:3?") && kinds.contains(":3P?"));
     }
 
     #[test]

@@ -67,7 +67,7 @@ fn one_nan_of(guard: Guard) -> Guard {
 mod tests {
     use super::super::{decode, encode};
     use super::*;
-    use crate::rendezvous::{RECORD_OUTCOME, RECORD_OWN, RECORD_PLACE};
+    use crate::rendezvous::{GUARD_ENABLED, GUARD_KIND, RECORD_OUTCOME, RECORD_OWN, RECORD_PLACE};
     use model::Desk;
 
     #[test]
@@ -107,7 +107,8 @@ mod tests {
     #[test]
     fn slots_past_a_lists_end_are_kept_but_not_read() {
         let mut table = Table::zero();
-        table.bytes_mut()[HEAD_BYTES + RECORD_OWN] = 1;
+        table.bytes_mut()[HEAD_BYTES + RECORD_OWN + GUARD_ENABLED] = 1;
+        table.bytes_mut()[HEAD_BYTES + RECORD_OWN + GUARD_KIND] = 255;
         assert!(decode(&table).parties[0].guards.is_empty());
         assert_eq!(normal(&table), table);
     }

@@ -92,11 +92,13 @@ fn list(input: &mut Reader, count: usize) -> Vec<Guard> {
 pub fn guard(input: &mut Reader) -> Guard {
     let enabled = input.flag();
     let partner = input.index();
+    let kind = input.byte();
     let sends = input.flag();
     let message = message(input);
     Guard {
         enabled,
         partner,
+        kind,
         action: match sends {
             true => Action::Send(message),
             false => Action::Receive,
@@ -124,10 +126,11 @@ pub fn message_of(bytes: &[u8]) -> Message {
 
 #[cfg(test)]
 mod tests {
-    use super::super::encode;
+    use super::super::{encode, put_guard};
     use super::*;
     use crate::damage;
     use crate::random::Random;
+    use crate::rendezvous::{GUARD_BYTES, GUARD_ENABLED, GUARD_KIND, GUARD_PARTNER, GUARD_SENDS};
 
     #[test]
     fn any_desk_is_read_back_as_it_was_written() {
@@ -135,6 +138,24 @@ mod tests {
         for _ in 0..2000 {
             let desk = damage::any_desk(&mut random);
             assert_eq!(decode(&encode(&desk)), desk);
+        }
+    }
+
+    #[test]
+    fn each_part_of_a_guard_has_its_byte() {
+        let (enabled, partner, kind) = (true, 255, 255);
+        let action = Action::Send(Message::Nothing);
+        for (part, place) in [
+            (Guard { enabled, ..BLANK }, GUARD_ENABLED),
+            (Guard { partner, ..BLANK }, GUARD_PARTNER),
+            (Guard { kind, ..BLANK }, GUARD_KIND),
+            (Guard { action, ..BLANK }, GUARD_SENDS),
+        ] {
+            let mut bytes = Vec::new();
+            put_guard(&mut bytes, &part);
+            let used = (0..GUARD_BYTES).filter(|&at| bytes[at] != 0);
+            assert_eq!(used.collect::<Vec<_>>(), [place]);
+            assert_eq!(guard(&mut Reader(&bytes)), part);
         }
     }
 }

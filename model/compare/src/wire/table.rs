@@ -8,6 +8,7 @@ use model::{Action, Guard};
 pub const BLANK: Guard = Guard {
     enabled: false,
     partner: 0,
+    kind: 0,
     action: Action::Receive,
 };
 

@@ -61,8 +61,8 @@ fn put_slots(out: &mut Vec<u8>, list: &[Guard]) {
 }
 
 pub fn put_guard(out: &mut Vec<u8>, guard: &Guard) {
-    let sends = u8::from(guard.sends());
-    out.extend([u8::from(guard.enabled), guard.partner as u8, sends]);
+    let (enabled, sends) = (u8::from(guard.enabled), u8::from(guard.sends()));
+    out.extend([enabled, guard.partner as u8, guard.kind, sends]);
     put_message(out, guard.message());
 }
 
@@ -81,7 +81,7 @@ pub fn put_message(out: &mut Vec<u8>, message: Message) {
 #[cfg(test)]
 mod tests {
     use super::*;
-    use crate::rendezvous::{receives, sends};
+    use crate::rendezvous::{of_kind, receives, sends};
     use crate::rendezvous::{GUARD_BYTES, GUARD_MESSAGE, HEAD_BYTES, HEAD_COUNT};
     use crate::rendezvous::{HEAD_NEXT, MESSAGE_BYTES, MESSAGE_VARIANT, RECORD_ACCEPTING};
     use crate::rendezvous::{LIMIT, NOTHING, READING, WHOLE};
@@ -113,17 +113,6 @@ mod tests {
         });
         record.ticket = Ticket(6);
         record.wake_count = 0;
-        let sending = Guard {
-            enabled: false,
-            partner: 9,
-            action: Action::Send(Message::Whole(-2)),
-        };
-        let receiving = Guard {
-            enabled: true,
-            partner: 8,
-            action: Action::Receive,
-        };
-        record.posted = vec![sending, receiving];
         let table = encode(&desk);
         let (head, records) = table.bytes().split_at(HEAD_BYTES);
         let bytes = &records[RECORD_BYTES..];
@@ -137,18 +126,40 @@ mod tests {
         assert_eq!(bytes[RECORD_SIGNAL_MESSAGE..RECORD_TICKET], signalled);
         assert_eq!(bytes[RECORD_TICKET..RECORD_ACCEPTING], [6, 0, 0, 0]);
         assert_eq!(bytes[RECORD_ACCEPTING], 1);
-        assert_eq!(bytes[RECORD_COUNTS..RECORD_OWN], [0, 2]);
+    }
+
+    #[test]
+    fn the_guards_stand_where_they_should() {
+        let sending = Guard {
+            enabled: false,
+            partner: 9,
+            kind: 255,
+            action: Action::Send(Message::Whole(-2)),
+        };
+        let receiving = Guard {
+            enabled: true,
+            partner: 8,
+            kind: 0,
+            action: Action::Receive,
+        };
+        let mut desk = Desk::new(2).expect("two is a good number");
+        desk.parties[0].guards = vec![receiving];
+        desk.parties[0].posted = vec![sending, receiving];
+        let table = encode(&desk);
+        let bytes = &table.bytes()[HEAD_BYTES..];
+        assert_eq!(bytes[RECORD_COUNTS..RECORD_OWN], [1, 2]);
+        assert_eq!(bytes[RECORD_OWN..][..GUARD_BYTES], receives(true, 8));
         let (first, rest) = bytes[RECORD_POSTED..].split_at(GUARD_BYTES);
-        assert_eq!(first[..GUARD_MESSAGE], [0, 9, 1]);
+        assert_eq!(first[..GUARD_MESSAGE], [0, 9, 255, 1]);
         assert_eq!(first[GUARD_MESSAGE..], [1, 254, 255, 255, 255, 0, 0, 0, 0]);
-        assert_eq!(first, sends(false, 9, WHOLE, 0xffff_fffe, 0));
+        assert_eq!(first, of_kind(sends(false, 9, WHOLE, 0xffff_fffe, 0), 255));
         assert_eq!(rest[..GUARD_BYTES], receives(true, 8));
     }
 
     #[test]
-    fn messages_have_their_kinds() {
+    fn messages_have_their_variants() {
         let (low, high) = (1.0, -2.0);
-        for (message, kind) in [
+        for (message, variant) in [
             (Message::Nothing, NOTHING),
             (Message::Whole(7), WHOLE),
             (Message::Reading(low), READING),
@@ -156,7 +167,7 @@ mod tests {
         ] {
             let mut bytes = Vec::new();
             put_message(&mut bytes, message);
-            assert_eq!(bytes[MESSAGE_VARIANT], kind);
+            assert_eq!(bytes[MESSAGE_VARIANT], variant);
         }
     }
 }
