@@ -90,7 +90,8 @@
 /* A fresh table of n processes. */
 bool rendezvous_create(uint8_t n, uint8_t *out, size_t out_length, uint8_t *answer, size_t answer_length);
 
-/* An offer by process p; `guards` has RENDEZVOUS_GUARD_BYTES for each guard, of any number of them. */
+/* An offer by process p; `guards` has RENDEZVOUS_GUARD_BYTES for each guard, of any number of them. Bytes behind the last whole guard
+   are not read. */
 bool rendezvous_offer(const uint8_t *table, size_t table_length, uint8_t p, const uint8_t *guards, size_t guards_length, uint8_t *out,
                       size_t out_length, uint8_t *answer, size_t answer_length);
 

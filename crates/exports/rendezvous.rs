@@ -110,7 +110,8 @@ pub fn create(n: u8, out: &mut [u8], answer: &mut [u8]) -> bool {
     }
 }
 
-/// An offer by process `p`; `guards` has `GUARD_BYTES` for each guard, of any number of them.
+/// An offer by process `p`; `guards` has `GUARD_BYTES` for each guard, of any number of them. Bytes
+/// behind the last whole guard are not read.
 #[must_use]
 pub fn offer(table: &[u8], p: u8, guards: &[u8], out: &mut [u8], answer: &mut [u8]) -> bool {
     unsafe {

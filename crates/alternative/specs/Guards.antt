@@ -10,7 +10,7 @@ mostGuards = 8
 abbrev pub blank : Guard
 blank = record { enabled = false; partner = 0; kind = 0; action = Action.Receive }
 
--- "Each guard gets a kind, 0 to 255" (CR 2): the guard g with kind k
+-- CR 2: "Each guard gets a kind, 0 to 255" (the code's `u8` holds no other): the guard g with kind k
 abbrev pub ofKind : ℕ → Guard → Guard
 ofKind k g = record { enabled = g .enabled; partner = g .partner; kind = k; action = g .action }
 
@@ -21,10 +21,14 @@ opposite Action.Receive (Action.Send m) = true
 opposite (Action.Send m) Action.Receive = true
 opposite (Action.Send m) (Action.Send k) = false
 
--- "Two guards match if both are enabled, each names the other's party, and one sends while the other receives.": g is a guard of p, h one of q. And CR 2: "two guards match only
--- if their kinds are equal as well."
+-- "Two guards match if both are enabled, each names the other's party, and one sends while the other receives.": g is a guard of p, h one of q
+abbrev pub plainMatch : ℕ → Guard → ℕ → Guard → Bool
+plainMatch p g q h = g .enabled && (h .enabled && (eqb (g .partner) q && (eqb (h .partner) p && opposite (g .action) (h .action))))
+
+-- CR 2: "two guards match only if their kinds are equal as well." And: ""Match" has this finer meaning wherever the mission uses it.": in offers that match, in rule 7's search and the
+-- book's, which are `keptMatch`, and in demand 3
 unfoldable pub guardsMatch : ℕ → Guard → ℕ → Guard → Bool
-guardsMatch p g q h = g .enabled && (h .enabled && (eqb (g .partner) q && (eqb (h .partner) p && (opposite (g .action) (h .action) && eqb (g .kind) (h .kind)))))
+guardsMatch p g q h = plainMatch p g q h && eqb (g .kind) (h .kind)
 
 -- a guard of the list passes the test
 unfoldable pub anyGuard : (Guard → Bool) → List Guard → Bool

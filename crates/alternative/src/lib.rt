@@ -77,7 +77,7 @@ pub enum Found {
     Missing,
 }
 
-// Carries that guards match only within a kind, and there as they do without kinds.
+// Carries that guards match only within a kind, and there as document 01 says.
 pub fn kinds_refine()
     ensures { λ _. ⌜ KindsRefine ⌝ }
 {}

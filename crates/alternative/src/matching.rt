@@ -28,8 +28,9 @@ fn guards_match(p: u8, g: Guard, q: u8, h: Guard) -> bool
 {
     let a = g.action;
     let b = h.action;
-    let suit = are_opposite(a, b) & (g.kind == h.kind);
-    g.enabled & (h.enabled & ((g.partner == q) & ((h.partner == p) & suit)))
+    let plain = g.enabled
+        & (h.enabled & ((g.partner == q) & ((h.partner == p) & are_opposite(a, b))));
+    plain & (g.kind == h.kind)
 }
 
 // The first guard in the list of process q, `count` guards, that matches guard g of process p.

@@ -7,7 +7,6 @@ use mathlib.Core.List.{[], _∷_}
 use mathlib.Core.Option.{Option, some, none}
 use lib.IntN.{negℤ, pos}
 use lib.Ieee.{binary32, ofBits}
-use Rattle.alternative.specs.Guards.{ofKind}
 use Rattle.text.specs.Ascii.{bytes}
 use Rattle.command.specs.Types.{Message, Action, Guard, Offer, Step, Collect, Withdraw, Command, New, Do, Movers}
 use Rattle.command.specs.Commands.{commandOf}
@@ -15,14 +14,21 @@ use Rattle.command.specs.Commands.{commandOf}
 abbrev says : String → Option Command
 says line = commandOf (bytes line)
 
+-- guards of kind k, to partner p
+abbrev receivesOf : ℕ → ℕ → Guard
+receivesOf k p = record { enabled = true; partner = p; kind = k; action = Action.Receive }
+
+abbrev sendsOf : ℕ → ℕ → Message → Guard
+sendsOf k p m = record { enabled = true; partner = p; kind = k; action = Action.Send m }
+
+abbrev disabledOf : ℕ → ℕ → Guard
+disabledOf k p = record { enabled = false; partner = p; kind = k; action = Action.Receive }
+
 abbrev receives : ℕ → Guard
-receives p = record { enabled = true; partner = p; kind = 0; action = Action.Receive }
+receives p = receivesOf 0 p
 
 abbrev sends : ℕ → Message → Guard
-sends p m = record { enabled = true; partner = p; kind = 0; action = Action.Send m }
-
-abbrev disabled : ℕ → Guard
-disabled p = record { enabled = false; partner = p; kind = 0; action = Action.Receive }
+sends p m = sendsOf 0 p m
 
 pub record LineCases : Type 0 where
   pub commands : (says "n 2" ≡ some (New 2))
@@ -31,16 +37,16 @@ pub record LineCases : Type 0 where
       × (says "o 1 0?" ≡ some (Do (Offer 1 (receives 0 ∷ []))))
       × (says "o 0" ≡ some (Do (Offer 0 [])))
       × (says "o 0 1!w-2147483648 2!0 3!l0000000180000000" ≡ some (Do (Offer 0 (sends 1 (Message.Whole (negℤ (pos 2147483648))) ∷ sends 2 Message.Nothing ∷ sends 3 (Message.Limit (ofBits binary32 1) (ofBits binary32 0x80000000)) ∷ []))))
-      × (says "o 0 -1?" ≡ some (Do (Offer 0 (disabled 1 ∷ []))))
+      × (says "o 0 -1?" ≡ some (Do (Offer 0 (disabledOf 0 1 ∷ []))))
       × (says "s 0" ≡ some (Do (Step 0)))
       × (says "c 1" ≡ some (Do (Collect 1)))
       × (says "w 0" ≡ some (Do (Withdraw 0)))
       × (says "m" ≡ some Movers)
   -- "The script writes `:k`, k formed like N, after the guard; left out, the kind is 0"
-  pub kinds : (says "o 1 0?:3" ≡ some (Do (Offer 1 (ofKind 3 (receives 0) ∷ []))))
+  pub kinds : (says "o 1 0?:3" ≡ some (Do (Offer 1 (receivesOf 3 0 ∷ []))))
       × (says "o 1 0?:0" ≡ some (Do (Offer 1 (receives 0 ∷ []))))
-      × (says "o 1 -0?:255 0!w-7:16 0!0:1 0?" ≡ some (Do (Offer 1 (ofKind 255 (disabled 0) ∷ ofKind 16 (sends 0 (Message.Whole (negℤ (pos 7)))) ∷ ofKind 1 (sends 0 Message.Nothing) ∷ receives 0 ∷ []))))
-      × (says "o 0 1!r40970a3d:10 1!l0000000180000000:128" ≡ some (Do (Offer 0 (ofKind 10 (sends 1 (Message.Reading (ofBits binary32 0x40970a3d))) ∷ ofKind 128 (sends 1 (Message.Limit (ofBits binary32 1) (ofBits binary32 0x80000000))) ∷ []))))
+      × (says "o 1 -0?:255 0!w-7:16 0!0:1 0?" ≡ some (Do (Offer 1 (disabledOf 255 0 ∷ sendsOf 16 0 (Message.Whole (negℤ (pos 7))) ∷ sendsOf 1 0 Message.Nothing ∷ receives 0 ∷ []))))
+      × (says "o 0 1!r40970a3d:10 1!l0000000180000000:128" ≡ some (Do (Offer 0 (sendsOf 10 1 (Message.Reading (ofBits binary32 0x40970a3d)) ∷ sendsOf 128 1 (Message.Limit (ofBits binary32 1) (ofBits binary32 0x80000000)) ∷ []))))
       × (says "o 1 0?:" ≡ none)
       × (says "o 1 0?:00" ≡ none)
       × (says "o 1 0?:01" ≡ none)

@@ -83,7 +83,7 @@ leading test (b ∷ bs) = cond (test b) (suc (leading test bs)) 0
 abbrev pub digitCount : List ℕ → ℕ
 digitCount bs = leading isDigit bs
 
--- "the partner in the same decimal form, and then" the action. Where no kind is written, "the kind is 0" (CR 2).
+-- "the partner in the same decimal form, and then" the action. The kind is 0 until guardIn gives it another.
 unfoldable pub guardFrom : Bool → List ℕ → Option Guard
 guardFrom enabled bs = do
   partner ← byteNumber (take (digitCount bs) bs)
@@ -103,12 +103,12 @@ isNot c b = not (eqb b c)
 abbrev pub before : ℕ → List ℕ → ℕ
 before c bs = leading (isNot c) bs
 
--- CR 2: "The script writes `:k`, k formed like N, after the guard; left out, the kind is 0": what stands after the guard, from the `:` on
+-- CR 2: "The script writes `:k`, k formed like N, after the guard; left out, the kind is 0": what stands after the guard is nothing, or a `:`, since guardIn cuts there, and k
 unfoldable pub kindIn : List ℕ → Option ℕ
 kindIn [] = some 0
 kindIn (colon ∷ k) = byteNumber k
 
--- a guard, and its kind after it: the field is cut before its first `:`
+-- a guard, and its kind after it: the field is cut before its first `:`, and no guard of document 01 has one
 unfoldable pub guardIn : List ℕ → Option Guard
 guardIn bs = do
   guard ← plainGuardIn (take (before (code ":") bs) bs)

@@ -13,7 +13,7 @@ use borrow.Author.Tests.{eqb-true, eqb-false, eq-eqb, ne-eqb, ltb-true, not-true
 use Rattle.alternative.specs.declared.Action.{Action}
 use Rattle.alternative.specs.declared.Guard.{Guard}
 use Rattle.alternative.specs.declared.Found.{Found}
-use Rattle.alternative.specs.Guards.{mostGuards, blank, opposite, guardsMatch, anyGuard, offersMatch, firstFrom, keptMatch, nextEnabled}
+use Rattle.alternative.specs.Guards.{mostGuards, blank, opposite, plainMatch, guardsMatch, anyGuard, offersMatch, firstFrom, keptMatch, nextEnabled}
 use Rattle.process.specs.Fits.{allGuards, partnerFits, listFits}
 use Rattle.alternative.proofs.Tests.{and-parts}
 use Rattle.history.proofs.Invariant.{On}
@@ -30,12 +30,12 @@ pub record Match (p : ℕ) (g : Guard) (q : ℕ) (h : Guard) : Type 0 where
 pub match : {p : ℕ} {g : Guard} {q : ℕ} {h : Guard} → guardsMatch p g q h ≡ true → Match p g q h
 unfolding guardsMatch
 match {p} {g} {q} {h} e =
-    let a = and-parts (g .enabled) _ e in
+    let k = and-parts (plainMatch p g q h) _ e in
+    let a = and-parts (g .enabled) _ (k .0) in
     let b = and-parts (h .enabled) _ (a .1) in
     let c = and-parts (eqb (g .partner) q) _ (b .1) in
     let d = and-parts (eqb (h .partner) p) _ (c .1) in
-    let f = and-parts (opposite (g .action) (h .action)) _ (d .1) in
-    record { here = a .0; there = b .0; to = eqb-true _ _ (c .0); back = eqb-true _ _ (d .0); one-sends = f .0; same-kind = eqb-true _ _ (f .1) }
+    record { here = a .0; there = b .0; to = eqb-true _ _ (c .0); back = eqb-true _ _ (d .0); one-sends = d .1; same-kind = eqb-true _ _ (k .1) }
 
 opposite-comm : (a b : Action) → opposite a b ≡ opposite b a
 opposite-comm Action.Receive Action.Receive = refl
@@ -56,9 +56,12 @@ and-swap false true c = refl
 and-swap false false c = refl
 
 -- matching is symmetric
+plain-comm : (p : ℕ) (g : Guard) (q : ℕ) (h : Guard) → plainMatch p g q h ≡ plainMatch q h p g
+plain-comm p g q h = rw (opposite-comm (g .action) (h .action), and-swap (eqb (g .partner) q) (eqb (h .partner) p) _) (and-swap (g .enabled) (h .enabled) _)
+
 pub match-comm : (p : ℕ) (g : Guard) (q : ℕ) (h : Guard) → guardsMatch p g q h ≡ guardsMatch q h p g
 unfolding guardsMatch
-match-comm p g q h = rw (opposite-comm (g .action) (h .action), eqb-comm (g .kind) (h .kind), and-swap (eqb (g .partner) q) (eqb (h .partner) p) _) (and-swap (g .enabled) (h .enabled) _)
+match-comm p g q h = rw (eqb-comm (g .kind) (h .kind)) (ap (λ (b : Bool). b && eqb (h .kind) (g .kind)) (plain-comm p g q h))
 
 -- by the two values of a test
 test-elim : {A : Type 0} (P : A → Type 0) (b : Bool) {x y : A} → (b ≡ true → P x) → (b ≡ false → P y) → P (cond b x y)

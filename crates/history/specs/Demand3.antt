@@ -9,7 +9,7 @@ use Rattle.history.specs.Book.{Transaction, Due, Rendezvous, Moment, Joi
 use Rattle.history.specs.Machine.{Machine, bookAfterAll, madeByAll, EachCall}
 use Rattle.history.specs.Tables.{tables}
 
--- A rendezvous joins two processes whose offers are open in the book, on guards of theirs that match; each one that a call enters does.
+-- A rendezvous joins two processes whose offers are open in the book, on guards of theirs that match (by CR 2 they are of one kind, too); each one that a call enters does.
 pub record Joins (b : History) (r : Rendezvous) : Type 0 where
   pub mine : Transaction
   pub theirs : Transaction

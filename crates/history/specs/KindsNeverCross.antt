@@ -1,4 +1,5 @@
 -- To be believed. CR 2 of document 02: "two guards match only if their kinds are equal as well." So no list of calls crosses kinds: each rendezvous joins guards of one kind.
+-- (It is said of what the book enters; by demand 3 the book is never stuck, and its run is what the tables show.)
 use Rattle.rendezvous.specs.Table.{mostProcesses, freshTable}
 use Rattle.rendezvous.specs.Numbers.{Said}
 use Rattle.rendezvous.specs.Run.{Call}

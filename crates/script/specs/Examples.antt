@@ -42,7 +42,7 @@ ClosedSlots =
     ≡ bytes "n 2\nx 14\nx 2\no 0 t0\nw 0 ok\no 0 t1\no 1 t2\ns 0 A0\ns 0 P\ns 0 O\ns 0 H\ns 0 W\ns 1 A0\ns 1 T0\ns 1 C0\nw 0 late\nw 1 late\ns 1 M\ns 0 M\nx 14\nc 0 0 1 r40970a3d\n"
 
 -- CR 2: "The script writes `:k`, k formed like N, after the guard". Process 0 takes temperature, of kind 1, or strain, of kind 2; process 1 has a strain of 340 first and a temperature of 21.
--- The strain goes to the guard for strains; the second time, each takes the other guard. A kind of 256 gives 8.
+-- The strain goes to the guard for strains. The second time process 0 has its guards in the other order, and its guard for strains finds no match. A kind of 256 gives 8.
 abbrev pub TwoSensors : Type 0
 TwoSensors =
     output (bytes "n 2\no 0 1?:1 1?:2\ns 0\ns 0\ns 0\ns 0\ns 0\ns 0\no 1 0!w340:2 0!w21:1\ns 1\ns 1\ns 1\ns 1\ns 0\nc 0\nc 1\no 1 0!w21:1\no 0 1?:2 1?:1\ns 1\ns 1\ns 1\ns 1\ns 1\ns 0\ns 0\ns 0\ns 0\ns 0\ns 0\ns 1\nc 0\no 0 1?:256\n")

@@ -1,12 +1,12 @@
--- To be believed. That a table is read back from its bytes: `reads_back` carries it of any table that is held, and `encode` of every table of the code.
+-- To be believed. That a table is read back from its bytes: `reads_back` carries it of any table that is held, and `encode` of every table of the code. `guard_as_bytes` carries a guard's bytes.
 use Rattle.alternative.specs.Guards.{mostGuards}
 use Rattle.process.specs.Process.{ifMet}
 use Rattle.rendezvous.specs.Table.{mostProcesses}
-use Rattle.wire.specs.Types.{ℕ, _^_, _<_, _≡_, List, [], _∷_, _++_, length, T, Float, binary32, w32, SFits, Message, Action, Guard, Signal, Place}
+use Rattle.wire.specs.Types.{ℕ, _^_, _<_, _≡_, true, List, [], _∷_, _++_, length, T, Float, binary32, w32, SFits, Message, Action, Guard, Signal, Place}
 use Rattle.wire.specs.Types.{Process, Head, ProcessTable}
 use Rattle.wire.specs.Layout.{tableLength}
-use Rattle.wire.specs.Reading.{tableOf}
-use Rattle.wire.specs.Writing.{bytesOf}
+use Rattle.wire.specs.Reading.{guardOf, tableOf}
+use Rattle.wire.specs.Writing.{guardBytes, bytesOf}
 use lib.Ieee as ieee
 
 -- a ticket of 32 bits, a signed number of 32 bits, an f32, as the code's types have them
@@ -64,3 +64,13 @@ pub record Faithful (t : ProcessTable) : Type 0 where
 
 abbrev pub ReadsBack : Type 0
 ReadsBack = (t : ProcessTable) → Held t → Faithful t
+
+-- The bytes of one guard, in their order: enabled, to partner 7, of kind 9, sending nothing. They are read as that guard.
+abbrev aGuard : Guard
+aGuard = record { enabled = true; partner = 7; kind = 9; action = Action.Send Message.Nothing }
+
+abbrev its : List ℕ
+its = 1 ∷ 7 ∷ 9 ∷ 1 ∷ 0 ∷ 0 ∷ 0 ∷ 0 ∷ 0 ∷ 0 ∷ 0 ∷ 0 ∷ 0 ∷ []
+
+abbrev pub GuardAsBytes : Type 0
+GuardAsBytes = (guardBytes aGuard ≡ its) × (guardOf its ≡ aGuard)

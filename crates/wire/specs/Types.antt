@@ -1,7 +1,7 @@
 -- To be believed as names only, gathered for the definitions here: the libraries' and the types that the code declares. No definition of its own.
 pub use Prim.Native.Nat.{ℕ, zero, suc, _+_, _*_, _/_, _%_, _^_, _<_}
 pub use mathlib.Core.Path.{_≡_}
-pub use mathlib.Core.Bool.{Bool, not, cond}
+pub use mathlib.Core.Bool.{Bool, true, not, cond}
 pub use mathlib.Core.List.{List, [], _∷_, _++_, flatten}
 pub use lib.ListN.{length, getD, drop}
 pub use lib.Dec.{T, eqb, leb}

@@ -7,7 +7,7 @@ ghost use lib.ListN.{length};
 ghost use Rattle.wire.specs.Reading.{tableOf};
 ghost use Rattle.wire.specs.Layout.{Lengths, tableLength};
 ghost use Rattle.wire.specs.Writing.{bytesOf, onto};
-ghost use Rattle.wire.specs.Claims.{Faithful, ReadsBack};
+ghost use Rattle.wire.specs.Claims.{Faithful, ReadsBack, GuardAsBytes};
 
 mod bytes;
 mod layout;
@@ -78,4 +78,9 @@ pub fn byte_lengths()
 // Carries that a table is read back from its bytes.
 pub fn reads_back()
     ensures { λ _. ⌜ ReadsBack ⌝ }
+{}
+
+// Carries the bytes of one guard, in their order.
+pub fn guard_as_bytes()
+    ensures { λ _. ⌜ GuardAsBytes ⌝ }
 {}
