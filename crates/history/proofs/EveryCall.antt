@@ -13,7 +13,6 @@ use Rattle.alternative.specs.Guards.{lent}
 use Rattle.process.specs.declared.Place.{Place}
 use Rattle.process.specs.declared.Process.{Process}
 use Rattle.rendezvous.specs.declared.ProcessTable.{ProcessTable}
-use Rattle.rendezvous.specs.declared.Answer.{Answer}
 use Rattle.process.specs.Process.{ownList, isOpen}
 use Rattle.rendezvous.specs.Table.{process, put}
 use Rattle.process.specs.Rules.{atPlace}

@@ -1,5 +1,4 @@
 -- No list of calls crosses kinds: by demand 3 the guards of each rendezvous match, and so they are of one kind.
-use mathlib.Core.Path.{sym}
 use mathlib.Core.List.{List, [], _∷_}
 use Rattle.rendezvous.specs.Numbers.{Said}
 use Rattle.rendezvous.specs.Run.{Call}

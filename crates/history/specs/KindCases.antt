@@ -4,7 +4,7 @@ use Rattle.alternative.specs.Guards.{ofKind}
 use Rattle.rendezvous.specs.Table.{freshTable}
 use Rattle.rendezvous.specs.Numbers.{Said, made, ticket, outcome, movers, refusal}
 use Rattle.rendezvous.specs.Run.{Call, Offer, Step, Collect}
-use Rattle.rendezvous.specs.Commands.{Command, New, Do, Movers}
+use Rattle.rendezvous.specs.Commands.{New, Do, Movers}
 use Rattle.history.specs.Types.{ℕ, _≡_, List, [], _∷_, _++_, some, none, replicate, Message, Guard}
 use Rattle.history.specs.Book.{Moment, Joined, emptyHistory, _>>=_}
 use Rattle.history.specs.Machine.{bookAfterAll, madeByAll}

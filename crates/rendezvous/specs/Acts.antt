@@ -6,7 +6,8 @@ use Rattle.process.specs.Process.{ownGuard}
 use Rattle.process.specs.Rules.{changed, atPlace, rule, partnerOf}
 use Rattle.process.specs.InCode.{changeOf, outcomeOf}
 use Rattle.rendezvous.specs.declared.Act.{Act}
-use Rattle.rendezvous.specs.Types.{ℕ, _+_, _≡_, Bool, true, false, cond, set, GuardList, Place, Process, Head, ProcessTable, Refusal, Verdict, Answer, Reply}
+use Rattle.rendezvous.specs.Types.{ℕ, _+_, _≡_, Bool, true, false, cond, set, GuardList, Place, Process, Head, ProcessTable, Refusal, Verdict, Answer}
+use Rattle.rendezvous.specs.Types.{Reply}
 use Rattle.rendezvous.specs.Table.{process, withNext}
 use Rattle.rendezvous.specs.WellFormed.{wellFormed}
 use Rattle.rendezvous.specs.Refusals.{processTests, offerTests, withdrawTests}

@@ -2,8 +2,8 @@
 use Rattle.alternative.specs.Guards.{mostGuards}
 use Rattle.process.specs.Process.{ifMet}
 use Rattle.rendezvous.specs.Table.{mostProcesses}
-use Rattle.wire.specs.Types.{ℕ, _^_, _<_, _≡_, true, List, [], _∷_, _++_, length, T, Float, binary32, w32, SFits, Message, Action, Guard, Signal, Place}
-use Rattle.wire.specs.Types.{Process, Head, ProcessTable}
+use Rattle.wire.specs.Types.{ℕ, _^_, _<_, _≡_, true, List, [], _∷_, _++_, length, T, Float, binary32, w32, SFits, Message, Action, Guard, Signal}
+use Rattle.wire.specs.Types.{Place, Process, Head, ProcessTable}
 use Rattle.wire.specs.Layout.{tableLength}
 use Rattle.wire.specs.Reading.{guardOf, tableOf}
 use Rattle.wire.specs.Writing.{guardBytes, bytesOf}
