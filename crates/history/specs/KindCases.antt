@@ -1,4 +1,5 @@
 -- To be believed. CR 2 of document 02, by cases: two sensors whose whole numbers would cross, guards that match but for their kinds, disabled guards, refusals, and the book's search.
+use mathlib.Core.List.{map}
 use lib.IntN.{pos}
 use Rattle.alternative.specs.Guards.{ofKind}
 use Rattle.rendezvous.specs.Table.{freshTable}
@@ -10,7 +11,6 @@ use Rattle.history.specs.Book.{Moment, Joined, emptyHistory, _>>=_}
 use Rattle.history.specs.Machine.{bookAfterAll, madeByAll}
 use Rattle.history.specs.Tables.{tables}
 use Rattle.history.specs.Cases.{Case, Hold, case, receive, send, sends, disabled, at}
-use mathlib.Core.List.{map}
 
 abbrev wholes : ℕ → Message
 wholes n = Message.Whole (pos n)
