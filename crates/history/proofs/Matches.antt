@@ -25,17 +25,15 @@ pub record Match (p : ℕ) (g : Guard) (q : ℕ) (h : Guard) : Type 0 where
   pub to : g .partner ≡ q
   pub back : h .partner ≡ p
   pub one-sends : opposite (g .action) (h .action) ≡ true
-  pub same-kind : g .kind ≡ h .kind
 
 pub match : {p : ℕ} {g : Guard} {q : ℕ} {h : Guard} → guardsMatch p g q h ≡ true → Match p g q h
 unfolding guardsMatch
 match {p} {g} {q} {h} e =
-    let k = and-parts (plainMatch p g q h) _ e in
-    let a = and-parts (g .enabled) _ (k .0) in
+    let a = and-parts (g .enabled) _ (and-parts (plainMatch p g q h) _ e .0) in
     let b = and-parts (h .enabled) _ (a .1) in
     let c = and-parts (eqb (g .partner) q) _ (b .1) in
     let d = and-parts (eqb (h .partner) p) _ (c .1) in
-    record { here = a .0; there = b .0; to = eqb-true _ _ (c .0); back = eqb-true _ _ (d .0); one-sends = d .1; same-kind = eqb-true _ _ (k .1) }
+    record { here = a .0; there = b .0; to = eqb-true _ _ (c .0); back = eqb-true _ _ (d .0); one-sends = d .1 }
 
 opposite-comm : (a b : Action) → opposite a b ≡ opposite b a
 opposite-comm Action.Receive Action.Receive = refl

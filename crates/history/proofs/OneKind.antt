@@ -1,18 +1,18 @@
 -- No list of calls crosses kinds: by demand 3 the guards of each rendezvous match, and so they are of one kind.
 use mathlib.Core.List.{List, [], _∷_}
+use Rattle.alternative.proofs.OneKind.{kinds-refine}
 use Rattle.rendezvous.specs.Numbers.{Said}
 use Rattle.rendezvous.specs.Run.{Call}
 use Rattle.history.specs.Book.{History}
 use Rattle.history.specs.Machine.{Machine, EachCall}
 use Rattle.history.specs.Demand3.{EntryJoins}
 use Rattle.history.specs.KindsNeverCross.{OfOneKind, KindsNeverCross}
-use Rattle.history.proofs.Matches.{match}
 use Rattle.history.proofs.Claimed.{demand3}
 
 of-one-kind : (b : History) (c : Call) (says : Said) (after : History) → EntryJoins b c says after → OfOneKind b c says after
 of-one-kind b c says after joins r e =
     let j = joins r e in
-    (j .g .kind, rw (j .mine-open, j .mine-guard), rw (j .theirs-open, j .theirs-guard, match (j .match) .same-kind))
+    (j .g .kind, rw (j .mine-open, j .mine-guard), rw (j .theirs-open, j .theirs-guard, kinds-refine .only-equal (r .p) (r .q) (j .g) (j .h) (j .match)))
 
 -- a fact of each call that another gives
 each-gives : (m : Machine) (F G : History → Call → Said → History → Type 0) → ((b : History) (c : Call) (says : Said) (after : History) → F b c says after → G b c says after)

@@ -1,7 +1,9 @@
 //! Kinds: what they part, what rule 7 and the book then keep, what stays open
 //! at rest, and what does not look at them.
 
-use crate::tools::{check_script, disabled, fresh, indexed, of_kind, receive, send, steps};
+use crate::tools::{
+    check_scanning, check_script, disabled, fresh, indexed, of_kind, receive, send, steps,
+};
 use model::guard::{first_match, guards_match, lists_match};
 use model::{
     by_value, Action, Answer, Book, Call, Desk, Entry, Guard, Meeting, Message, Outcome, Place,
@@ -174,6 +176,20 @@ fn commit(book: &mut Book, party: usize, index: usize) -> Result<Entry, Stuck> {
     book.feed(&Call::Step { party }, Told::Place(place))
 }
 
+/// Forty goes over: the second offer commits to the first. Each party with the
+/// index of its guard.
+fn forty_meets([p, i]: [usize; 2], [q, j]: [usize; 2]) -> Result<Entry, Stuck> {
+    Ok(Entry::Met(Meeting {
+        p_ticket: Ticket(1),
+        q_ticket: Ticket(0),
+        p,
+        i,
+        q,
+        j,
+        message: FORTY,
+    }))
+}
+
 fn outcome(index: usize, partner: usize, message: Message) -> Option<Outcome> {
     Some(Outcome {
         index,
@@ -187,16 +203,7 @@ fn the_book_keeps_the_first_guard_of_the_same_kind() {
     let mut book = Book::default();
     offer(&mut book, 1, &senders());
     offer(&mut book, 0, &[of_kind(STRAIN, receive(1))]);
-    let meeting = Meeting {
-        p_ticket: Ticket(1),
-        q_ticket: Ticket(0),
-        p: 0,
-        i: 0,
-        q: 1,
-        j: 2,
-        message: FORTY,
-    };
-    assert_eq!(commit(&mut book, 0, 0), Ok(Entry::Met(meeting)));
+    assert_eq!(commit(&mut book, 0, 0), forty_meets([0, 0], [1, 2]));
     assert_eq!(book.due(0), outcome(0, 1, FORTY));
     assert_eq!(book.due(1), outcome(2, 0, Message::Nothing));
 }
@@ -207,16 +214,7 @@ fn the_book_goes_by_kinds_when_the_sender_commits() {
     let receivers = [TEMPERATURE, STRAIN].map(|kind| of_kind(kind, receive(1)));
     offer(&mut book, 0, &receivers);
     offer(&mut book, 1, &senders());
-    let meeting = Meeting {
-        p_ticket: Ticket(1),
-        q_ticket: Ticket(0),
-        p: 1,
-        i: 2,
-        q: 0,
-        j: 1,
-        message: FORTY,
-    };
-    assert_eq!(commit(&mut book, 1, 2), Ok(Entry::Met(meeting)));
+    assert_eq!(commit(&mut book, 1, 2), forty_meets([1, 2], [0, 1]));
     assert_eq!(book.due(0), outcome(1, 1, FORTY));
     assert_eq!(book.due(1), outcome(2, 0, Message::Nothing));
 }
@@ -392,17 +390,7 @@ fn every_kind_is_read_as_written() {
 #[test]
 fn scanning_does_not_look_at_kinds() {
     // The two cannot meet, and yet one keeps the other waiting.
-    check_script(&[
-        ("n 2", "n 2"),
-        ("o 0 1!0:1", "o 0 t0"),
-        ("o 1 0?:2", "o 1 t1"),
-        ("s 0", "s 0 A0"),
-        ("s 1", "s 1 A0"),
-        ("s 0", "s 0 ="),
-        ("m", "m 00000002"),
-        ("s 1", "s 1 S"),
-        ("s 0", "s 0 P"),
-    ]);
+    check_scanning("1!0:1", "0?:2");
 }
 
 #[test]

@@ -1,6 +1,6 @@
 //! The script program: its forms, its limits and its order of tests.
 
-use crate::tools::check_script;
+use crate::tools::{check_scanning, check_script};
 use model::script::run;
 
 /// A line that is malformed on a desk of two parties.
@@ -281,18 +281,7 @@ fn places_and_indexes_are_shown() {
 
 #[test]
 fn two_scanning_parties_stand_still_and_fall_asleep() {
-    check_script(&[
-        ("n 2", "n 2"),
-        ("o 0 1?", "o 0 t0"),
-        ("o 1 0?", "o 1 t1"),
-        ("s 0", "s 0 A0"),
-        ("s 1", "s 1 A0"),
-        ("s 0", "s 0 ="),
-        // Only party 1 would move: party 0 waits for the younger one.
-        ("m", "m 00000002"),
-        ("s 1", "s 1 S"),
-        ("s 0", "s 0 P"),
-    ]);
+    check_scanning("1?", "0?");
 }
 
 #[test]

@@ -88,3 +88,19 @@ pub fn check_script(pairs: &[(&str, &str)]) {
     let output = String::from_utf8(run(input.as_bytes())).expect("the output is text");
     assert_eq!(output, expected, "for the input\n{input}");
 }
+
+/// Parties 0 and 1 offer one guard each, and scan each other.
+pub fn check_scanning(older: &str, younger: &str) {
+    check_script(&[
+        ("n 2", "n 2"),
+        (&format!("o 0 {older}"), "o 0 t0"),
+        (&format!("o 1 {younger}"), "o 1 t1"),
+        ("s 0", "s 0 A0"),
+        ("s 1", "s 1 A0"),
+        ("s 0", "s 0 ="),
+        // Only party 1 would move: party 0 waits for the younger one.
+        ("m", "m 00000002"),
+        ("s 1", "s 1 S"),
+        ("s 0", "s 0 P"),
+    ]);
+}
