@@ -314,6 +314,12 @@ static void tell_all(void) {
     while (held > 0) tell(0);
 }
 
+/* How many steps of its nap process p has made at S. Of a nap of one step there is nothing to tell. */
+static void tell_nap(const uint8_t *session, unsigned p) {
+    unsigned nap = session[RENDEZVOUS_SESSION_TABLE + RENDEZVOUS_HEAD_NAP];
+    if (nap > 1) printf("asleep for %u of %u steps, ", record(session, p)[RENDEZVOUS_RECORD_STEPS], nap);
+}
+
 /* Where process p stands. */
 static void tell_place(const uint8_t *session, unsigned p) {
     const Process *process = &processes[p];
@@ -321,6 +327,7 @@ static void tell_place(const uint8_t *session, unsigned p) {
     printf(" (at %c", at);
     if (strchr("ATC", at)) printf("%u", record(session, p)[RENDEZVOUS_RECORD_INDEX]);
     printf(" since line %lu, ", process->moved);
+    if (at == 'S') tell_nap(session, p);
     if (process->stepped > 0)
         printf("last step at line %lu)\n", process->stepped);
     else
@@ -392,13 +399,18 @@ static void see_stray(unsigned p, char from, char to) {
     differs = true;
 }
 
+/* Whether the line brought process p to another place: a guard's index is a part of one, the steps made at S are not. */
+static bool arrives(unsigned p, char from, char to) {
+    return from != to || (to != 'S' && changed(p, RENDEZVOUS_RECORD_INDEX, RENDEZVOUS_RECORD_KEPT));
+}
+
 /* What the line did to process p. */
 static void look_at(unsigned p) {
     char from = place(before, p), to = place(after, p);
     see_stray(p, from, to);
     for (size_t k = 0; from != to && k < sizeof moves / sizeof moves[0]; k++)
         if (strchr(moves[k].from, from) && to == moves[k].to) moves[k].station(p);
-    if (from != to || changed(p, RENDEZVOUS_RECORD_INDEX, RENDEZVOUS_RECORD_KEPT)) processes[p].moved = line;
+    if (arrives(p, from, to)) processes[p].moved = line;
 }
 
 /* The old table ends, and with it every story. */

@@ -43,6 +43,7 @@
 
 #define RENDEZVOUS_RECORD_PLACE 0
 #define RENDEZVOUS_RECORD_INDEX 1
+#define RENDEZVOUS_RECORD_STEPS 1 /* at S, in the index's place: the own steps made there */
 #define RENDEZVOUS_RECORD_KEPT 2
 #define RENDEZVOUS_RECORD_OUTCOME 3
 #define RENDEZVOUS_RECORD_SIGNAL (RENDEZVOUS_RECORD_OUTCOME + RENDEZVOUS_MESSAGE_BYTES)
@@ -55,7 +56,8 @@
 #define RENDEZVOUS_RECORD_BYTES (RENDEZVOUS_RECORD_POSTED + RENDEZVOUS_LIST_BYTES)
 
 #define RENDEZVOUS_HEAD_COUNT 0
-#define RENDEZVOUS_HEAD_NEXT 1
+#define RENDEZVOUS_HEAD_NAP 1
+#define RENDEZVOUS_HEAD_NEXT 2
 #define RENDEZVOUS_HEAD_BYTES (RENDEZVOUS_HEAD_NEXT + RENDEZVOUS_WORD_BYTES)
 #define RENDEZVOUS_TABLE_BYTES (RENDEZVOUS_HEAD_BYTES + RENDEZVOUS_PROCESSES * RENDEZVOUS_RECORD_BYTES)
 
@@ -87,8 +89,12 @@
 #define RENDEZVOUS_SESSION_BYTES (RENDEZVOUS_SESSION_TABLE + RENDEZVOUS_TABLE_BYTES)
 #define RENDEZVOUS_LINE_BYTES 64 /* no line of a script prints more */
 
-/* A fresh table of n processes. */
-bool rendezvous_create(uint8_t n, uint8_t *out, size_t out_length, uint8_t *answer, size_t answer_length);
+/* A fresh table of n processes, 2 to 32 (else refused by 1), with naps of `nap` own steps, 1 to 255 (0 is refused by 15, after 1). A process
+   that goes to S leaves it at its nap-th own step there; each step before that is answered moved, to S, and is a whole call. With rounds, as
+   in examples/link/tasks.c, take 1. Where tasks step for themselves, take at least as many as one task makes between two steps of another:
+   while a sleeper naps, an older process that steps passes it. A sleeper makes all of these steps, even where nobody is in its way any
+   more (README.md, "Order and progress"). */
+bool rendezvous_create(uint8_t n, uint8_t nap, uint8_t *out, size_t out_length, uint8_t *answer, size_t answer_length);
 
 /* An offer by process p; `guards` has RENDEZVOUS_GUARD_BYTES for each guard, of any number of them. Bytes behind the last whole guard
    are not read. */

@@ -45,6 +45,8 @@ pub const LIST_BYTES: usize = GUARDS * GUARD_BYTES;
 
 pub const RECORD_PLACE: usize = 0;
 pub const RECORD_INDEX: usize = 1;
+/// At S, in the index's place: the own steps made there.
+pub const RECORD_STEPS: usize = 1;
 pub const RECORD_KEPT: usize = 2;
 pub const RECORD_OUTCOME: usize = 3;
 pub const RECORD_SIGNAL: usize = RECORD_OUTCOME + MESSAGE_BYTES;
@@ -57,7 +59,8 @@ pub const RECORD_POSTED: usize = RECORD_OWN + LIST_BYTES;
 pub const RECORD_BYTES: usize = RECORD_POSTED + LIST_BYTES;
 
 pub const HEAD_COUNT: usize = 0;
-pub const HEAD_NEXT: usize = 1;
+pub const HEAD_NAP: usize = 1;
+pub const HEAD_NEXT: usize = 2;
 pub const HEAD_BYTES: usize = HEAD_NEXT + WORD_BYTES;
 pub const TABLE_BYTES: usize = HEAD_BYTES + PROCESSES * RECORD_BYTES;
 
@@ -96,12 +99,19 @@ pub const LINE_BYTES: usize = 64;
 // SAFETY, for every call below: the library reads and writes nothing but the slices that it is
 // lent, whatever their bytes and lengths, and a slice lent as `&mut` overlaps no other.
 
-/// A fresh table of `n` processes.
+/// A fresh table of `n` processes, 2 to 32 (else refused by 1), with naps of `nap` own steps, 1 to
+/// 255 (0 is refused by 15, after 1). A process that goes to S leaves it at its `nap`-th own step
+/// there; each step before that is answered moved, to S, and is a whole call. With rounds, as in
+/// examples/link/tasks.rs, take 1. Where tasks step for themselves, take at least as many as one
+/// task makes between two steps of another: while a sleeper naps, an older process that steps
+/// passes it. A sleeper makes all of these steps, even where nobody is in its way any more
+/// (README.md, "Order and progress").
 #[must_use]
-pub fn create(n: u8, out: &mut [u8], answer: &mut [u8]) -> bool {
+pub fn create(n: u8, nap: u8, out: &mut [u8], answer: &mut [u8]) -> bool {
     unsafe {
         rendezvous_create(
             n,
+            nap,
             out.as_mut_ptr(),
             out.len(),
             answer.as_mut_ptr(),
@@ -280,6 +290,7 @@ fn by_process(call: ByProcess, table: &[u8], p: u8, out: &mut [u8], answer: &mut
 unsafe extern "C" {
     fn rendezvous_create(
         n: u8,
+        nap: u8,
         out: *mut u8,
         out_length: usize,
         answer: *mut u8,

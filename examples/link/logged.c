@@ -73,10 +73,12 @@ static void next(bool called, const char *call) {
     print_answer(call);
 }
 
-static void create(uint8_t n) {
+/* Naps of one step are logged as a script mostly writes them: left out, as kind 0 is. */
+static void create(uint8_t n, uint8_t nap) {
     const char *call = begin('n', n);
+    if (nap != 1) fprintf(script, " %u", nap);
     end_line();
-    next(rendezvous_create(n, after, sizeof after, answer, sizeof answer), call);
+    next(rendezvous_create(n, nap, after, sizeof after, answer, sizeof answer), call);
 }
 
 static void offer(uint8_t p, const uint8_t *guards, size_t length) {
@@ -132,7 +134,7 @@ int main(int count, char **words) {
         fprintf(stderr, "logged-c LOG: LOG is a file that can be written.\n");
         return 2;
     }
-    create(2);
+    create(2, 1);
     offer(0, not_a_number, sizeof not_a_number);
     offer(0, reading, sizeof reading);
     settle();

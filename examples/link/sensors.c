@@ -7,6 +7,7 @@
 #include <string.h>
 
 enum { SAMPLER, STORE, PROCESSES };
+enum { NAP = 1 }; /* rounds let every process step between two steps of a sleeper */
 enum { TEMPERATURE = 1, STRAIN = 2 }; /* kinds */
 
 typedef uint8_t Guard[RENDEZVOUS_GUARD_BYTES];
@@ -61,7 +62,7 @@ int main(void) {
     value(values[1], temperature, TEMPERATURE);
     place(places[0], TEMPERATURE);
     place(places[1], STRAIN);
-    next(rendezvous_create(PROCESSES, after, sizeof after, answer, sizeof answer));
+    next(rendezvous_create(PROCESSES, NAP, after, sizeof after, answer, sizeof answer));
     for (int k = 0; k < 2; k++) {
         offer(SAMPLER, values[0], sizeof values);
         offer(STORE, places[0], sizeof places);

@@ -13,6 +13,8 @@ use rendezvous::{COLLECTED, GUARD_ENABLED, MESSAGE_FIRST, MOVED, OFFERED, WHOLE}
 const SAMPLER: u8 = 0;
 const STORE: u8 = 1;
 const PROCESSES: u8 = 2;
+/// Rounds let every process step between two steps of a sleeper.
+const NAP: u8 = 1;
 
 // Kinds.
 const TEMPERATURE: u8 = 1;
@@ -27,7 +29,7 @@ struct Table {
 impl Table {
     fn fresh() -> Table {
         let (mut bytes, mut answer) = ([0; TABLE_BYTES], [0; ANSWER_BYTES]);
-        assert!(create(PROCESSES, &mut bytes, &mut answer));
+        assert!(create(PROCESSES, NAP, &mut bytes, &mut answer));
         Table { bytes, answer }
     }
 

@@ -28,7 +28,7 @@ int main(void) {
     memcpy(&bits, &sent, sizeof bits);
     rendezvous_sends(reading, true, 1, RENDEZVOUS_READING, bits, 0);
     rendezvous_receives(taking, true, 0);
-    next(rendezvous_create(2, after, sizeof after, answer, sizeof answer));
+    next(rendezvous_create(2, 1, after, sizeof after, answer, sizeof answer)); /* two processes, naps of one step */
     offer(0, reading);
     offer(1, taking);
     step(0, 5); /* 0 finds nobody, posts its list and waits */

@@ -12,7 +12,8 @@ fn main() {
     let sent: f32 = 4.72;
     let (mut table, mut after) = ([0; TABLE_BYTES], [0; TABLE_BYTES]);
     let mut answer = [0; ANSWER_BYTES];
-    assert!(create(2, &mut table, &mut answer));
+    // Two processes, and naps of one step.
+    assert!(create(2, 1, &mut table, &mut answer));
     let reading = sends(true, 1, READING, sent.to_bits(), 0);
     let taking = receives(true, 0);
     assert!(offer(&table, 0, &reading, &mut after, &mut answer));

@@ -17,6 +17,7 @@
 #include <time.h>
 
 enum { STORE, RADIO, PROCESSES };
+enum { NAP = 1 }; /* as in tasks.c */
 
 static pthread_mutex_t lock = PTHREAD_MUTEX_INITIALIZER;
 static pthread_cond_t changed = PTHREAD_COND_INITIALIZER;
@@ -129,7 +130,7 @@ static void *radio(void *unused) {
 
 int main(void) {
     pthread_t storing, listening;
-    keep(rendezvous_create(PROCESSES, after, sizeof after, answer, sizeof answer));
+    keep(rendezvous_create(PROCESSES, NAP, after, sizeof after, answer, sizeof answer));
     if (pthread_create(&storing, NULL, store, NULL) != 0 || pthread_create(&listening, NULL, radio, NULL) != 0) fail("a thread cannot be made");
     pthread_join(storing, NULL);
     pthread_join(listening, NULL);

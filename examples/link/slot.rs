@@ -26,6 +26,8 @@ use std::time::Duration;
 const STORE: u8 = 0;
 const RADIO: u8 = 1;
 const PROCESSES: u8 = 2;
+/// As in tasks.rs.
+const NAP: u8 = 1;
 
 /// The table, what the last call answered, and how many withdrawals were too late.
 struct Table {
@@ -37,7 +39,7 @@ struct Table {
 impl Table {
     fn fresh() -> Table {
         let (mut bytes, mut answer) = ([0; TABLE_BYTES], [0; ANSWER_BYTES]);
-        assert!(create(PROCESSES, &mut bytes, &mut answer));
+        assert!(create(PROCESSES, NAP, &mut bytes, &mut answer));
         Table {
             bytes,
             answer,

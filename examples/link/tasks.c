@@ -12,15 +12,18 @@
    offer nothing was runnable, so that no two of the older offers match.
 
    Unchanged is no error: the process waits for another's move (at A until a younger one is out of its way, at W for a signal), or for
-   its task (at I and M). S is a nap, in which a younger process makes way for an older one: let every other process step before it
-   steps again, or the older one may never find it asleep.
+   its task (at I and M). S is a nap, NAP own steps long, in which a younger process makes way for an older one: let every
+   other process step before it is over, or the older one may never find it asleep.
 
    No order of steps makes a wrong rendezvous, but an order can keep one from happening. These loops look right and need not end,
    although two offers match, since the older process never steps while the younger is asleep (examples/endless-nap.script and
-   examples/endless-sweep.script):
+   examples/endless-sweep.script, where a nap is one step long):
    - s 0, s 1, s 1 for ever, where 0 is the older and 1 is at A whenever 0 steps;
    - stepping only those that were runnable when the sweep began: upwards where the older process has the higher number, or downwards
-     where it has the lower. */
+     where it has the lower.
+   With naps of two steps the first of them comes to rest. But no length ends every order: with naps of d, s 0 and then d + 1 times s 1 for
+   ever, where 1 is at A whenever 0 steps, bring the same table back (`endless` of crates/history/specs/NapCases.antt; with naps of two
+   in examples/nap-ends.script). */
 #include "rendezvous.h"
 #include <pthread.h>
 #include <stdio.h>
@@ -28,6 +31,7 @@
 #include <string.h>
 
 enum { SAMPLER, FINDER, PROCESSES };
+enum { NAP = 1 }; /* rounds let every process step between two steps of a sleeper */
 
 /* What a task collects: which of its guards has met, and the message's one or two f32, as bits. */
 typedef struct {
@@ -139,7 +143,7 @@ static void *find(void *unused) {
 int main(int count, char **words) {
     pthread_t sampling, finding;
     if (count > 1) batches = strtoul(words[1], NULL, 10);
-    keep(rendezvous_create(PROCESSES, after, sizeof after, answer, sizeof answer));
+    keep(rendezvous_create(PROCESSES, NAP, after, sizeof after, answer, sizeof answer));
     if (pthread_create(&sampling, NULL, sample, NULL) != 0 || pthread_create(&finding, NULL, find, NULL) != 0) fail("a thread cannot be made");
     pthread_join(sampling, NULL);
     pthread_join(finding, NULL);

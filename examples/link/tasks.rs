@@ -29,6 +29,8 @@ use std::thread;
 const SAMPLER: u8 = 0;
 const FINDER: u8 = 1;
 const PROCESSES: u8 = 2;
+/// Rounds let every process step between two steps of a sleeper.
+const NAP: u8 = 1;
 
 /// What a task collects: which of its guards has met, and the message's one or two f32, as bits.
 struct Outcome {
@@ -46,7 +48,7 @@ struct Table {
 impl Table {
     fn fresh() -> Table {
         let (mut bytes, mut answer) = ([0; TABLE_BYTES], [0; ANSWER_BYTES]);
-        assert!(create(PROCESSES, &mut bytes, &mut answer));
+        assert!(create(PROCESSES, NAP, &mut bytes, &mut answer));
         Table { bytes, answer }
     }
 

@@ -27,6 +27,8 @@ pub struct Party {
 #[derive(Clone, Debug, PartialEq, Eq)]
 pub struct Desk {
     pub n: usize,
+    /// The nap length: a sleeper leaves S at its own step of this number there.
+    pub nap: u8,
     pub next_ticket: Ticket,
     pub parties: Vec<Party>,
 }
@@ -76,7 +78,7 @@ impl Party {
     pub fn is_open(&self) -> bool {
         match self.place {
             Place::Entering | Place::Scanning(_) | Place::Trying(_) => true,
-            Place::Posting | Place::Opening | Place::Asleep => true,
+            Place::Posting | Place::Opening | Place::Asleep(_) => true,
             Place::Showing | Place::Waiting => self.wake_count == 0,
             Place::Idle | Place::Committed { .. } | Place::Met(_) => false,
         }
@@ -84,13 +86,17 @@ impl Party {
 }
 
 impl Desk {
-    /// A fresh desk of `n` parties.
-    pub fn new(n: usize) -> Result<Desk, Refusal> {
+    /// A fresh desk of `n` parties with nap length `nap`.
+    pub fn new(n: usize, nap: u8) -> Result<Desk, Refusal> {
         if !(2..=32).contains(&n) {
             return Err(Refusal::PartyCount);
         }
+        if nap == 0 {
+            return Err(Refusal::Nap);
+        }
         Ok(Desk {
             n,
+            nap,
             next_ticket: Ticket(0),
             parties: vec![Party::fresh(); n],
         })

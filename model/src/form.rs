@@ -8,6 +8,7 @@ pub fn in_form(desk: &Desk) -> bool {
     // Document 01 knows no desk with fewer records than parties; here such a
     // desk can be written down, so it counts as out of form.
     (2..=32).contains(&desk.n)
+        && desk.nap > 0
         && desk.parties.len() >= desk.n
         && (0..desk.n).all(|party| party_in_form(desk, party))
 }
@@ -18,6 +19,7 @@ fn party_in_form(desk: &Desk, party: usize) -> bool {
         && list_in_form(&record.posted, party, desk.n)
         && indexes_in_form(record)
         && kept_in_form(desk, record)
+        && sleeper_in_form(record, desk.nap)
 }
 
 fn list_in_form(list: &[Guard], party: usize, n: usize) -> bool {
@@ -44,4 +46,12 @@ fn kept_in_form(desk: &Desk, record: &Party) -> bool {
     let partner = record.guards.get(own).map(|guard| guard.partner);
     let partner = partner.and_then(|number| desk.parties.get(number));
     partner.is_some_and(|other| kept < other.posted.len())
+}
+
+/// A sleeper leaves S at its step number `nap`, so it has made fewer there.
+fn sleeper_in_form(record: &Party, nap: u8) -> bool {
+    match record.place {
+        Place::Asleep(steps) => steps < nap,
+        _ => true,
+    }
 }

@@ -1,6 +1,6 @@
 //! A plain model of the desk through which the tasks of one logger meet.
 //!
-//! It is written from document 01 and requests 1 and 2 of document 02 alone,
+//! It is written from document 01 and requests 1 to 3 of document 02 alone,
 //! with ordinary vectors and changes in place, so that it can be compared with
 //! any other program.
 

@@ -6,7 +6,7 @@ use crate::message::Message;
 
 #[derive(Clone, Debug, PartialEq, Eq)]
 pub enum Command {
-    New { n: usize },
+    New { n: usize, nap: u8 },
     Call(Call),
 }
 
@@ -15,10 +15,8 @@ pub enum Command {
 pub fn read(line: &[u8]) -> Option<Command> {
     let fields: Vec<&[u8]> = line.split(|&byte| byte == b' ').collect();
     let call = match fields.as_slice() {
-        [b"n", count] => {
-            let n = small(count)?;
-            return Some(Command::New { n });
-        }
+        [b"n", count] => return new(count, None),
+        [b"n", count, nap] => return new(count, Some(nap)),
         [b"o", party, guards @ ..] => Call::Offer {
             party: small(party)?,
             guards: guards
@@ -39,6 +37,14 @@ pub fn read(line: &[u8]) -> Option<Command> {
         _ => return None,
     };
     Some(Command::Call(call))
+}
+
+/// A party count and a nap length, which is 1 if left out.
+fn new(count: &[u8], nap: Option<&[u8]>) -> Option<Command> {
+    Some(Command::New {
+        n: small(count)?,
+        nap: nap.map_or(Some(1), byte)?,
+    })
 }
 
 fn guard(field: &[u8]) -> Option<Guard> {
@@ -89,7 +95,7 @@ fn small(field: &[u8]) -> Option<usize> {
     byte(field).map(usize::from)
 }
 
-/// 0 to 255: the form that parties, party counts and kinds share.
+/// 0 to 255: the form that parties, party counts, nap lengths and kinds share.
 fn byte(field: &[u8]) -> Option<u8> {
     u8::try_from(decimal(field)?).ok()
 }

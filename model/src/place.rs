@@ -11,7 +11,8 @@ pub struct IndexedMessage {
 }
 
 /// Where a party stands. Only a party at M has an outcome, so M holds it;
-/// only a party at C has a kept index, so C holds that.
+/// only a party at C has a kept index, so C holds that; only a party at S
+/// counts its steps, so S holds the own steps made there.
 #[derive(Clone, Copy, Debug, PartialEq, Eq)]
 pub enum Place {
     Idle,
@@ -22,7 +23,7 @@ pub enum Place {
     Posting,
     Opening,
     Showing,
-    Asleep,
+    Asleep(u8),
     Waiting,
     Met(IndexedMessage),
 }
@@ -49,7 +50,7 @@ impl Place {
             Place::Idle | Place::Entering | Place::Met(_) => Word::Running,
             Place::Scanning(_) | Place::Trying(_) | Place::Committed { .. } => Word::Alt,
             Place::Posting | Place::Opening | Place::Showing => Word::Alt,
-            Place::Asleep => Word::Sleeping,
+            Place::Asleep(_) => Word::Sleeping,
             Place::Waiting => Word::Waiting,
         }
     }
@@ -64,7 +65,7 @@ impl Place {
             Place::Posting => ('P', None),
             Place::Opening => ('O', None),
             Place::Showing => ('H', None),
-            Place::Asleep => ('S', None),
+            Place::Asleep(_) => ('S', None),
             Place::Waiting => ('W', None),
             Place::Met(_) => ('M', None),
         };

@@ -14,6 +14,7 @@ pub enum Refusal {
     TicketsUsedUp = 12,
     NotMet = 13,
     NothingOffered = 14,
+    Nap = 15,
 }
 
 impl Refusal {

@@ -8,8 +8,9 @@ use crate::place::{IndexedMessage, Place, Word};
 /// Moves `p` by the one rule that fits; no place means that nothing changed.
 pub fn apply(desk: &mut Desk, p: usize) -> Option<Place> {
     let new_place = match desk.parties[p].place {
-        // Rules 1 and 2: a sleeper starts over and keeps its ticket.
-        Place::Entering | Place::Asleep => Some(enabled_from(&desk.parties[p].guards, 0)),
+        // Rule 1.
+        Place::Entering => Some(enabled_from(&desk.parties[p].guards, 0)),
+        Place::Asleep(steps) => Some(sleep(desk, p, steps)),
         Place::Scanning(own) => scan(desk, p, own),
         Place::Trying(own) => Some(try_partner(desk, p, own)),
         Place::Committed { own, kept } => Some(deliver(desk, p, own, kept)),
@@ -37,6 +38,18 @@ pub fn would_change(desk: &Desk, p: usize) -> bool {
     }
 }
 
+/// Rule 2. The last step of a nap starts over with the same ticket; each earlier
+/// one is counted, and that alone changes the desk.
+fn sleep(desk: &Desk, p: usize, steps: u8) -> Place {
+    // In form fewer than `nap` steps are made, so one more fits.
+    let steps = steps + 1;
+    if steps < desk.nap {
+        Place::Asleep(steps)
+    } else {
+        enabled_from(&desk.parties[p].guards, 0)
+    }
+}
+
 /// A at the first enabled guard at or after `from`, or P if there is none.
 fn enabled_from(guards: &[Guard], from: usize) -> Place {
     match (from..guards.len()).find(|&index| guards[index].enabled) {
@@ -53,7 +66,7 @@ fn scan(desk: &Desk, p: usize, own: usize) -> Option<Place> {
     match partner.place.word() {
         Word::Running | Word::Sleeping => Some(enabled_from(&record.guards, own + 1)),
         Word::Waiting => Some(Place::Trying(own)),
-        Word::Alt if partner.ticket < record.ticket => Some(Place::Asleep),
+        Word::Alt if partner.ticket < record.ticket => Some(Place::Asleep(0)),
         Word::Alt => None,
     }
 }

@@ -25,8 +25,8 @@ pub fn run(input: &[u8]) -> Vec<u8> {
 fn answer(desk: &mut Option<Desk>, line: &[u8]) -> Result<String, Refusal> {
     let command = command(line).ok_or(Refusal::MalformedLine)?;
     match (command, desk) {
-        (Command::New { n }, desk) => {
-            *desk = Some(Desk::new(n)?);
+        (Command::New { n, nap }, desk) => {
+            *desk = Some(Desk::new(n, nap)?);
             Ok(format!("n {n}"))
         }
         (Command::Call(call), Some(desk)) => answer_call(desk, call),

@@ -4,14 +4,15 @@ use Prim.Native.Char.{code}
 use mathlib.Core.Path.{_≡_, refl}
 use mathlib.Core.Bool.{Bool, true, false, cond, not}
 use mathlib.Core.List.{List, [], _∷_}
-use mathlib.Core.Option.{none}
+use mathlib.Core.Option.{some, none}
 use native.Mathlib.Numerals.{add-one}
 use lib.Dec.{eqb}
 use lib.ListN.{length, take, drop, drop-of-length-le}
 use lib.Seq.{drop-cons, drop-drop, take-all}
 use Rattle.text.specs.Reading.{byteNumber}
-use Rattle.command.specs.Commands.{fields, putBefore, leading, numberIn}
+use Rattle.command.specs.Commands.{fields, putBefore, leading, numberIn, napIn}
 use Rattle.command.specs.Private.{fieldLength, fieldsAfter}
+use Rattle.command.proofs.Heads.{empty-of}
 
 pub fields-cut : (s : List ℕ) → fields s ≡ take (fieldLength s) s ∷ fieldsAfter (drop (fieldLength s) s)
 unfolding fields leading fieldsAfter
@@ -44,3 +45,13 @@ number-whole s h = rw (fields-cut s, last-cut s (fieldLength s) h, take-all (fie
 pub number-parted : (s : List ℕ) → fieldLength s < length s → numberIn (fields s) ≡ none
 unfolding numberIn
 number-parted s h = rw (fields-cut s, next-cut s (fieldLength s) h)
+
+-- what stands after N: nothing, or a space and the length of a nap
+pub nap-left-out : (s : List ℕ) → length s ≡ 0 → napIn (fieldsAfter s) ≡ some 1
+unfolding fieldsAfter napIn
+nap-left-out s e = rw (empty-of s e)
+
+pub nap-after : (s : List ℕ) → (length s ≡ 0 → ⊥) → napIn (fieldsAfter s) ≡ numberIn (fields (drop 1 s))
+unfolding fieldsAfter napIn
+nap-after [] h = absurd (h refl)
+nap-after (b ∷ bs) h = rw (fields-cut bs)

@@ -14,7 +14,7 @@ use Rattle.text.specs.Reading.{provided}
 use Rattle.command.specs.Types.{Command, Movers, Verb}
 use Rattle.command.specs.InCode.{plain, asParsed}
 use Rattle.command.specs.Private.{asNumbered}
-use Rattle.command.specs.Commands.{isEmpty, fields, putBefore, numberIn, numbered, offerIn, byLetter, commandIn, commandOf}
+use Rattle.command.specs.Commands.{isEmpty, fields, putBefore, numberIn, newIn, numbered, offerIn, byLetter, commandIn, commandOf}
 use Rattle.command.proofs.Heads.{empty-of, alone-of}
 use Rattle.command.proofs.Cuts.{fields-cut}
 
@@ -52,7 +52,7 @@ command-glued k b bs h = rw (ne-eqb b (code " ") h) (glued k b (fields bs) (eqb 
 
 -- of the letters only `m` stands alone
 pub alone-none : (k : ℕ) → (k ≡ code "m" → ⊥) → byLetter k [] ≡ none
-unfolding byLetter numbered numberIn offerIn
+unfolding byLetter numbered numberIn newIn offerIn
 alone-none k h = rw (ne-eqb k (code "m") h) (same (eqb k (code "n")) (eqb k (code "o")) (eqb k (code "s")) (eqb k (code "c")) (eqb k (code "w")))
   where
     same : (n o s c w : Bool) → _≡_ {A = Option Command} (cond n none (cond o none (cond s none (cond c none (cond w none none))))) none

@@ -1,4 +1,4 @@
--- To be believed. Document 01, "The script program" and "Edges to try", and CRs 1 and 2 of document 02: what some lines say. The function `line_cases` carries these claims.
+-- To be believed. Document 01, "The script program" and "Edges to try", and CRs 1 to 3 of document 02: what some lines say. The function `line_cases` carries these claims.
 use Prim.Native.Nat.{ℕ}
 use Prim.Native.String.{String}
 use mathlib.Core.Path.{_≡_}
@@ -31,8 +31,8 @@ abbrev sends : ℕ → Message → Guard
 sends p m = sendsOf 0 p m
 
 pub record LineCases : Type 0 where
-  pub commands : (says "n 2" ≡ some (New 2))
-      × (says "n 255" ≡ some (New 255))
+  pub commands : (says "n 2" ≡ some (New 2 1))
+      × (says "n 255" ≡ some (New 255 1))
       × (says "o 0 1!r40970a3d" ≡ some (Do (Offer 0 (sends 1 (Message.Reading (ofBits binary32 0x40970a3d)) ∷ []))))
       × (says "o 1 0?" ≡ some (Do (Offer 1 (receives 0 ∷ []))))
       × (says "o 0" ≡ some (Do (Offer 0 [])))
@@ -60,6 +60,23 @@ pub record LineCases : Type 0 where
       × (says "o 1 :1" ≡ none)
       × (says "o 1:1 0?" ≡ none)
       × (says "s 1:1" ≡ none)
+  -- "`n N` without a second number means 1"; 0 is a number, which the call refuses
+  pub naps : (says "n 2 1" ≡ some (New 2 1))
+      × (says "n 2 3" ≡ some (New 2 3))
+      × (says "n 32 255" ≡ some (New 32 255))
+      × (says "n 0 0" ≡ some (New 0 0))
+      × (says "n 2 256" ≡ none)
+      × (says "n 2 00" ≡ none)
+      × (says "n 2 01" ≡ none)
+      × (says "n 2 -1" ≡ none)
+      × (says "n 2 " ≡ none)
+      × (says "n 2  3" ≡ none)
+      × (says "n 2 3 " ≡ none)
+      × (says "n 2 3 4" ≡ none)
+      × (says "n  3" ≡ none)
+      × (says "n 2:3" ≡ none)
+      × (says "n 256 3" ≡ none)
+      × (says "s 0 1" ≡ none)
   pub malformed : (says "n 256" ≡ none)
       × (says "n 02" ≡ none)
       × (says "n" ≡ none)

@@ -1,4 +1,4 @@
--- To be believed. Document 01, "The script program", and CRs 1 and 2 of document 02: what a line says. `none` where it says no command: the line is malformed.
+-- To be believed. Document 01, "The script program", and CRs 1 to 3 of document 02: what a line says. `none` where it says no command: the line is malformed.
 use Prim.Native.Nat.{ℕ, suc}
 use Prim.Native.Char.{code}
 use mathlib.Core.Bool.{Bool, true, false, not, cond}
@@ -137,16 +137,29 @@ offerIn (f ∷ fs) = do
   gs ← guardsIn fs
   some (Do (Offer p gs))
 
--- "`n N`", "`s P`", "`c P`", "`w P`": the fields after the letter
+-- CR 3: "`n N` without a second number means 1": what stands after N is nothing, or the nap length d, in the form of N, as the only field
+unfoldable pub napIn : List (List ℕ) → Option ℕ
+napIn [] = some 1
+napIn (f ∷ fs) = numberIn (f ∷ fs)
+
+-- "`n N`", and CR 3's nap length: the fields after the letter
+unfoldable pub newIn : List (List ℕ) → Option Command
+newIn [] = none
+newIn (f ∷ fs) = do
+  n ← byteNumber f
+  d ← napIn fs
+  some (New n d)
+
+-- "`s P`", "`c P`", "`w P`": the fields after the letter
 unfoldable pub numbered : (ℕ → Command) → List (List ℕ) → Option Command
 numbered make fs = do
-  n ← numberIn fs
-  some (make n)
+  p ← numberIn fs
+  some (make p)
 
 -- "`n N` makes a desk; `o P G..` offers, with no guards or more; `s P` steps; `c P` collects; `m` prints movers.", and CR 1's "`w P`": the letter k, and the fields after it
 unfoldable pub byLetter : ℕ → List (List ℕ) → Option Command
 byLetter k fs =
-    cond (eqb k (code "n")) (numbered New fs)
+    cond (eqb k (code "n")) (newIn fs)
     (cond (eqb k (code "o")) (offerIn fs)
     (cond (eqb k (code "s")) (numbered (λ p. Do (Step p)) fs)
     (cond (eqb k (code "c")) (numbered (λ p. Do (Collect p)) fs)

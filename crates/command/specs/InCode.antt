@@ -7,12 +7,12 @@ use Rattle.command.specs.Types.{Offer, Step, Collect, Withdraw, Command,
 
 -- a command without guards
 abbrev pub plain : Verb → ℕ → Parsed
-plain verb number = record { verb = verb; number = number; list = lent [] }
+plain verb number = record { verb = verb; number = number; nap = 0; list = lent [] }
 
 abbrev pub asParsed : Option Command → Parsed
 asParsed none = plain Verb.Malformed 0
-asParsed (some (New n)) = plain Verb.New n
-asParsed (some (Do (Offer p gs))) = record { verb = Verb.Offer; number = p; list = lent gs }
+asParsed (some (New n d)) = record { verb = Verb.New; number = n; nap = d; list = lent [] }
+asParsed (some (Do (Offer p gs))) = record { verb = Verb.Offer; number = p; nap = 0; list = lent gs }
 asParsed (some (Do (Step p))) = plain Verb.Step p
 asParsed (some (Do (Collect p))) = plain Verb.Collect p
 asParsed (some (Do (Withdraw p))) = plain Verb.Withdraw p

@@ -6,7 +6,7 @@ use mathlib.Core.Path.{_≡_}
 use mathlib.Core.Option.{Option, some, none}
 use Rattle.alternative.specs.Guards.{lent}
 use Rattle.text.specs.Types.{_>>=_}
-use Rattle.command.specs.Types.{Message, Action, Guard, GuardList, Offer, Do, Verb, Parsed, ReadMessage, ReadAction, ReadGuard}
+use Rattle.command.specs.Types.{Message, Action, Guard, GuardList, Offer, New, Do, Verb, Parsed, ReadMessage, ReadAction, ReadGuard}
 use Rattle.command.specs.Commands.{fields, before}
 use Rattle.command.specs.InCode.{plain, asParsed}
 
@@ -14,6 +14,12 @@ use Rattle.command.specs.InCode.{plain, asParsed}
 abbrev pub asNumbered : Verb → Option ℕ → Parsed
 asNumbered verb none = plain Verb.Malformed 0
 asNumbered verb (some n) = plain verb n
+
+-- a new table of n processes
+abbrev pub asNew : ℕ → Option ℕ → Parsed
+asNew n o = asParsed (do
+  d ← o
+  some (New n d))
 
 -- an offer by p
 abbrev pub asOffer : ℕ → Option (List Guard) → Parsed

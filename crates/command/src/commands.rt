@@ -1,11 +1,11 @@
 // A whole line: its letter, and what stands after it.
 use crate::Parsed;
 use crate::Verb;
-use crate::fields::length_before;
+use crate::fields::read_only_number;
 use crate::offers::parse_offer;
 use crate::plain_command;
+use crate::tables::parse_new;
 use text::ByteNumber;
-use text::read_byte_number;
 ghost use mathlib.Core.Path.{_≡_};
 ghost use mathlib.Core.List.{[]};
 ghost use Rattle.command.specs.Commands.{fields, numberIn, byLetter, commandOf};
@@ -16,10 +16,7 @@ ghost use Rattle.command.specs.Private.{asNumbered};
 fn parse_numbered(verb: Verb, s: &[u8]) -> Parsed
     ensures { λ r. ⌜ r ≡ asNumbered verb (numberIn (fields (now (s .entry)))) ⌝ }
 {
-    if length_before(b' ', s) < s.len() {
-        return plain_command(Verb::Malformed, 0);
-    }
-    match read_byte_number(s) {
+    match read_only_number(s) {
         ByteNumber::Malformed => plain_command(Verb::Malformed, 0),
         ByteNumber::Value(n) => plain_command(verb, n),
     }
@@ -40,7 +37,7 @@ fn parse_with(letter: u8, s: &[u8]) -> Parsed
     ensures { λ r. ⌜ r ≡ asParsed (byLetter letter (fields (now (s .entry)))) ⌝ }
 {
     if letter == b'n' {
-        return parse_numbered(Verb::New, s);
+        return parse_new(s);
     }
     if letter == b'o' {
         return parse_offer(s);

@@ -1,6 +1,9 @@
-// Parts of a line: where a field ends, or a guard before its kind.
+// Parts of a line: where a field ends, or a guard before its kind, and a number that is the only field.
+use text::ByteNumber;
+use text::read_byte_number;
 ghost use mathlib.Core.Path.{_≡_};
-ghost use Rattle.command.specs.Commands.{before};
+ghost use Rattle.text.specs.Types.{byteRead};
+ghost use Rattle.command.specs.Commands.{before, fields, numberIn};
 
 // How many bytes stand before the first `mark`, or before the end.
 pub fn length_before(mark: u8, s: &[u8]) -> usize
@@ -14,4 +17,14 @@ pub fn length_before(mark: u8, s: &[u8]) -> usize
         i += 1;
     }
     i
+}
+
+// A number that is the only field.
+pub fn read_only_number(s: &[u8]) -> ByteNumber
+    ensures { λ r. ⌜ byteRead r ≡ numberIn (fields (now (s .entry))) ⌝ }
+{
+    if length_before(b' ', s) < s.len() {
+        return ByteNumber::Malformed;
+    }
+    read_byte_number(s)
 }

@@ -15,6 +15,7 @@ mod guards;
 mod lists;
 mod messages;
 mod offers;
+mod tables;
 
 pub use commands::parse;
 
@@ -29,15 +30,16 @@ pub enum Verb {
     Movers,
 }
 
-// A command: its verb, its number, N or P, and the guards of an offer. What a verb does not have is 0, or an empty list.
+// A command: its verb, its number, N or P, the nap of a new table, and the guards of an offer. What a verb does not have is 0, or an empty list.
 // It is a struct and no enum with the parts of each verb, since a list of guards is an array.
 pub struct Parsed {
     pub verb: Verb,
     pub number: u8,
+    pub nap: u8,
     pub list: GuardList,
 }
 
-// A command without guards.
+// A command of a number alone, or of none.
 pub fn plain_command(verb: Verb, number: u8) -> Parsed
     ensures { λ r. ⌜ r ≡ plain verb number ⌝ }
 {
@@ -45,6 +47,7 @@ pub fn plain_command(verb: Verb, number: u8) -> Parsed
     Parsed {
         verb: verb,
         number: number,
+        nap: 0,
         list: list,
     }
 }

@@ -36,6 +36,7 @@ fn offer_of(p: u8, s: &[u8]) -> Parsed
     Parsed {
         verb: Verb::Offer,
         number: p,
+        nap: 0,
         list: list,
     }
 }

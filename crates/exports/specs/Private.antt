@@ -12,7 +12,7 @@ onOther partner action place =
 abbrev pub facing : Place → Action → Action → ProcessTable
 facing place first second =
     let processes = onOther 1 first place ∷ onOther 0 second (Place.Trying 0) ∷ replicate (mostProcesses - 2) freshProcess in
-    record { head = withNext (freshHead 2) 2; processes = processes }
+    record { head = withNext (freshHead 2 1) 2; processes = processes }
 
 abbrev pub collectedOf : Answer → Message
 collectedOf (Answer.Collected i q m) = m

@@ -40,7 +40,7 @@ fn place_index(place: Place) -> u8
         Place::Posting => 0,
         Place::Opening => 0,
         Place::Showing => 0,
-        Place::Asleep => 0,
+        Place::Asleep(_) => 0,
         Place::Waiting => 0,
         Place::Met(_, _) => 0,
     }

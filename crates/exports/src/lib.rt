@@ -31,12 +31,12 @@ use through::reading_through;
 // The two values of a limit.
 struct Pair(f32, f32);
 
-// A fresh table of n processes.
+// A fresh table of n processes with naps of `nap` own steps.
 #[no_mangle]
-pub extern "C" fn rendezvous_create(n: u8, out: &mut [u8], answer: &mut [u8]) -> bool
-    ensures { λ r. ⌜ Gives true (create n) (now (out .entry)) (now (answer .entry)) (now (out .exit)) (now (answer .exit)) r ⌝ }
+pub extern "C" fn rendezvous_create(n: u8, nap: u8, out: &mut [u8], answer: &mut [u8]) -> bool
+    ensures { λ r. ⌜ Gives true (create n nap) (now (out .entry)) (now (answer .entry)) (now (out .exit)) (now (answer .exit)) r ⌝ }
 {
-    give(true, ProcessTable::create(n), out, answer)
+    give(true, ProcessTable::create(n, nap), out, answer)
 }
 
 // An offer by process p. `guards` holds the bytes of any number of guards.

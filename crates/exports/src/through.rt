@@ -54,7 +54,7 @@ fn facing_table(place: Place, first: Action, second: Action) -> ProcessTable
     processes[0] = on_other(1, first, place);
     processes[1] = on_other(0, second, Place::Trying(0));
     let next = TransactionId(2);
-    let mut head = fresh_head(2);
+    let mut head = fresh_head(2, 1);
     head.next = next;
     ProcessTable {
         head: head,

@@ -44,23 +44,23 @@ ends t b s = record {
   rests = λ rest. at-rest t (s .good) (rest-still t (well-formed t (s .good)) rest);
 }
 
-pub fresh-in-step : (n : ℕ) → InStep (freshTable n) emptyHistory
-fresh-in-step n = record {
+pub fresh-in-step : (n d : ℕ) → InStep (freshTable n d) emptyHistory
+fresh-in-step n d = record {
   counts = refl;
-  each = λ p. fresh-each (Agrees (listsOf (process (freshTable n))) emptyHistory p) (record { offer = refl; owed = refl; at = tt; told = tt }) (record { offer = refl; owed = refl; at = tt; told = tt }) n p;
+  each = λ p. fresh-each (Agrees (listsOf (process (freshTable n d))) emptyHistory p) (record { offer = refl; owed = refl; at = tt; told = tt }) (record { offer = refl; owed = refl; at = tt; told = tt }) n d p;
   once = record { differ = tt; unused = λ t l. tt; below = λ p o e. absurd (Option·none-ne-some o e); unmet = λ p o e. tt; apart = λ p q o r ne e. absurd (Option·none-ne-some o e) };
-  awaited = λ p. fresh-each (λ x. Bound x → Held (process (freshTable n)) p) (λ b. absurd (b .shows)) (λ b. absurd (b .shows)) n p;
+  awaited = λ p. fresh-each (λ x. Bound x → Held (process (freshTable n d)) p) (λ b. absurd (b .shows)) (λ b. absurd (b .shows)) n d p;
 }
 
 -- (The bounds go by arithmetic, so that this would prove a claim for fewer sizes too. That one is refused where demand 3 is used at its ends.)
-fresh-sound : (n : ℕ) → 2 ≤ n → n ≤ mostProcesses → Sound (freshTable n) emptyHistory
-fresh-sound n least most = record { good = good-fresh n (omega arith) (omega arith); in-step = fresh-in-step n }
+fresh-sound : (n d : ℕ) → 2 ≤ n → n ≤ mostProcesses → 1 ≤ d → Sound (freshTable n d) emptyHistory
+fresh-sound n d least most naps = record { good = good-fresh n d (omega arith) (omega arith) (omega arith); in-step = fresh-in-step n d }
 
 pub demand3 : Demand3
-demand3 n least most calls = claim-from tables Sound follows ends (freshTable n) emptyHistory (fresh-sound n (omega arith) (omega arith)) calls
+demand3 n d least most naps calls = claim-from tables Sound follows ends (freshTable n d) emptyHistory (fresh-sound n d (omega arith) (omega arith) (omega arith)) calls
 
-pub reached : (n : ℕ) → 2 ≤ n → n ≤ mostProcesses → (calls : List Call) → Reaches tables Sound (freshTable n) emptyHistory calls
-reached n least most calls = reaches tables Sound follows (freshTable n) emptyHistory (fresh-sound n least most) calls
+pub reached : (n d : ℕ) → 2 ≤ n → n ≤ mostProcesses → 1 ≤ d → (calls : List Call) → Reaches tables Sound (freshTable n d) emptyHistory calls
+reached n d least most naps calls = reaches tables Sound follows (freshTable n d) emptyHistory (fresh-sound n d least most naps) calls
 
 pub stays-well-formed : StaysWellFormed
-stays-well-formed n least most calls = well-formed _ (reached n least most calls .related .good)
+stays-well-formed n d least most naps calls = well-formed _ (reached n d least most naps calls .related .good)

@@ -1,5 +1,5 @@
 -- The book follows a commit, and so every step.
-use Prim.Native.Nat.{ℕ, suc, _<_}
+use Prim.Native.Nat.{ℕ, suc, _+_, _<_}
 use mathlib.Core.Path.{_≡_, refl, sym, _∙_, ap, subst, subst⁻¹}
 use mathlib.Core.Bool.{Bool, true, false, cond, true≢false, false≢true}
 use mathlib.Core.List.{List, [], _∷_}
@@ -16,7 +16,7 @@ use Rattle.process.specs.declared.Process.{Process}
 use Rattle.rendezvous.specs.declared.ProcessTable.{ProcessTable}
 use Rattle.process.specs.Process.{isAt, stateOf, indexOf, ownList, ownGuard, postedList, openAt}
 use Rattle.rendezvous.specs.Table.{process, put}
-use Rattle.process.specs.Rules.{Both, atPlace, withAccepting, try, ruleAt, rule, namedBy}
+use Rattle.process.specs.Rules.{Both, atPlace, withAccepting, sleepAt, try, ruleAt, rule, namedBy}
 use Rattle.rendezvous.specs.Calls.{applied, effectOn, stepped}
 use Rattle.rendezvous.specs.Run.{Step}
 use Rattle.history.specs.Book.{Transaction, Rendezvous, Moment, Joined, History, sendersMessage, dueMessage, withRendezvous, committing, enter}
@@ -176,8 +176,13 @@ module _ {t : ProcessTable} (good : Good t) {b : History} (k : InStep t b) (p : 
   tries i e false a (Found.At j) f = scans good k p below _ e refl refl (λ i j c. c) _ (suc i)
   tries i e false a Found.Missing f = scans good k p below _ e refl refl (λ i j c. c) _ (suc i)
 
+  -- rule 2: an early step of a nap only counts
+  sleeps : (s : ℕ) → process t p .place ≡ Place.Asleep s → (early : Bool) → Followed t b (Step p) (applied t p 0 (sleepAt (process t p) s early))
+  sleeps s e true = moves good k p below _ e _ (search (offer-at (k .each p) e, owed-at (k .each p) e, k .each p .told, hidden))
+  sleeps s e false = scans good k p below _ e refl refl (λ i j c. c) _ 0
+
   step-at : (place : Place) → process t p .place ≡ place → let q = namedBy (process t p) (indexOf place) in
-      Followed t b (Step p) (applied t p q (ruleAt p (process t p) q (process t q) place))
+      Followed t b (Step p) (applied t p q (ruleAt (t .head .nap) p (process t p) q (process t q) place))
   step-at Place.Idle e = stays good k p below
   step-at Place.Entering e = scans good k p below _ e refl refl (λ i j c. c) _ 0
   step-at (Place.Scanning i) e = scan-followed good k p below i e
@@ -191,7 +196,7 @@ module _ {t : ProcessTable} (good : Good t) {b : History} (k : InStep t b) (p : 
   step-at Place.Showing e =
       let bound : Bound (atPlace (process t p) Place.Waiting) → Bound (process t p) = λ b. record { shows = rw e tt; woken = b .woken; deaf = b .deaf } in
       moves good k p below _ e _ (search (offer-at (k .each p) e, owed-at (k .each p) e, k .each p .told, bound))
-  step-at Place.Asleep e = scans good k p below _ e refl refl (λ i j c. c) _ 0
+  step-at (Place.Asleep s) e = sleeps s e (ltb (s + 1) (t .head .nap))
   step-at Place.Waiting e = absorbs good k p below e (process t p .signal) refl
   step-at (Place.Met i m) e = stays good k p below
 

@@ -37,7 +37,7 @@ pub record Pledged (lists : ℕ → List Guard) (due : ℕ → Option Due) (p i 
 
 -- due by the place of p, whose own list is gs; at the other places nothing is asked
 abbrev pub DueAt : (ℕ → List Guard) → (ℕ → Option Due) → ℕ → List Guard → Place → Type 0
-DueAt lists due p gs place = carried (Unit {0}) (λ i. Unit {0}) (λ i j. Pledged lists due p i (getD gs i blank) j)
+DueAt lists due p gs place = carried (Unit {0}) (λ i. Unit {0}) (λ i j. Pledged lists due p i (getD gs i blank) j) (λ s. Unit {0})
     (λ i m. due p ≡ some (record { index = i; partner = getD gs i blank .partner; message = m })) place
 
 -- due by a signal
@@ -77,7 +77,7 @@ open-unowed (Place.Committed i j) a o = absurd (true≢false (sym o))
 open-unowed Place.Posting a o = refl
 open-unowed Place.Opening a o = refl
 open-unowed Place.Showing a o = rw o refl
-open-unowed Place.Asleep a o = refl
+open-unowed (Place.Asleep s) a o = refl
 open-unowed Place.Waiting a o = rw o refl
 open-unowed (Place.Met i m) a o = absurd (true≢false (sym o))
 
@@ -97,8 +97,8 @@ module _ (lists lists' : ℕ → List Guard) (due due' : ℕ → Option Due) (p 
   at-other : (gs : List Guard) (place : Place)
       → ((i j : ℕ) → place ≡ Place.Committed i j → (lists' (getD gs i blank .partner) ≡ lists (getD gs i blank .partner)) × (due' (getD gs i blank .partner) ≡ due (getD gs i blank .partner)))
       → DueAt lists due p gs place → DueAt lists' due' p gs place
-  at-other gs place h = both-carried (λ (a b : Type 0). a → b) _ _ _ _ _ _ _ _ place (λ d. tt) (λ i e d. tt)
-      (λ i j e d. let r = h i j e in record { mine = rw (same, r .0) (d .mine); theirs = r .1 ∙ d .theirs }) (λ i m e d. same ∙ d)
+  at-other gs place h = both-carried (λ (a b : Type 0). a → b) _ _ _ _ _ _ _ _ _ _ place (λ d. tt) (λ i e d. tt)
+      (λ i j e d. let r = h i j e in record { mine = rw (same, r .0) (d .mine); theirs = r .1 ∙ d .theirs }) (λ s e d. tt) (λ i m e d. same ∙ d)
 
 pub agrees-other : (lists lists' : ℕ → List Guard) (b b' : History) (p : ℕ) (x : Process) → b' .opened p ≡ b .opened p → b' .due p ≡ b .due p
     → ((i j : ℕ) → x .place ≡ Place.Committed i j → (lists' (ownGuard x i .partner) ≡ lists (ownGuard x i .partner)) × (b' .due (ownGuard x i .partner) ≡ b .due (ownGuard x i .partner)))

@@ -14,8 +14,8 @@ use Rattle.process.proofs.PlaceCases.{by-carried}
 use Rattle.process.specs.Fits.{placeFits, processFits}
 use Rattle.rendezvous.specs.declared.ProcessTable.{ProcessTable}
 use Rattle.rendezvous.specs.Table.{process}
-use Rattle.rendezvous.specs.WellFormed.{allBelow, countFits, fitsAt, wellFormed}
-use Rattle.history.proofs.Invariant.{OutcomeFits, Good}
+use Rattle.rendezvous.specs.WellFormed.{allBelow, countFits, napFits, fitsAt, wellFormed}
+use Rattle.history.proofs.Invariant.{PlaceFormed, Good}
 use Rattle.history.proofs.Matches.{match}
 use Rattle.history.proofs.Facts.{at-on, shown, commit-binds}
 use Rattle.history.proofs.Formed.{on-below}
@@ -29,8 +29,8 @@ all-below test zero h = refl
 all-below test (suc n) h = rw (all-below test n h, h n)
 
 module _ (t : ProcessTable) (good : Good t) where
-  place-fits : (p : ℕ) → placeFits (process t p .count) (process t (partnerOf (process t p)) .altcount) (process t p .place) ≡ true
-  place-fits p = by-carried (λ fits. fits ≡ true) true _ _ _ (process t p .place) refl own (λ i j e. rw (own i (rw e refl), kept i j e)) (λ i m e. outcome i m e)
+  place-fits : (p : ℕ) → placeFits (t .head .nap) (process t p .count) (process t (partnerOf (process t p)) .altcount) (process t p .place) ≡ true
+  place-fits p = by-carried (λ fits. fits ≡ true) true _ _ _ _ (process t p .place) refl own (λ i j e. rw (own i (rw e refl), kept i j e)) sleeps outcome
     where
       own : (i : ℕ) → indexOf (process t p .place) ≡ some i → ltb i (process t p .count) ≡ true
       own i e = on-below (process t p .guards) (process t p .count) i (at-on (process t) (good .inv) p i e)
@@ -42,13 +42,17 @@ module _ (t : ProcessTable) (good : Good t) where
           let b = commit-binds (process t) (good .inv) p i j e in
           rw e (on-below (process t q .altlist) (process t q .altcount) j (rw (shown (process t) (good .inv) q (b .0 .shows) .posted) (match (b .1) .there)))
 
+      sleeps : (s : ℕ) → process t p .place ≡ Place.Asleep s → ltb s (t .head .nap) ≡ true
+      sleeps s e = subst (PlaceFormed (t .head .nap) (process t p .count)) e (good .formed p .place)
+
       outcome : (i : ℕ) (m : Message) → process t p .place ≡ Place.Met i m → ltb i (process t p .count) ≡ true
-      outcome i m e = subst (OutcomeFits (process t p .count)) e (good .formed p .outcome)
+      outcome i m e = subst (PlaceFormed (t .head .nap) (process t p .count)) e (good .formed p .place)
 
   process-fits : (p : ℕ) → fitsAt t p ≡ true
   unfolding fitsAt processFits
   process-fits p = rw (good .inv .alone p .own, good .formed p .posted, good .formed p .signal) (place-fits p)
 
   pub well-formed : wellFormed t ≡ true
-  unfolding wellFormed countFits
-  well-formed = both _ _ (both _ _ (le-leb 2 (t .head .n) (good .least)) (le-leb (t .head .n) _ (omega (arith, good .most)))) (all-below (fitsAt t) (t .head .n) process-fits)
+  unfolding wellFormed countFits napFits
+  well-formed = both _ _ (both _ _ (le-leb 2 (t .head .n) (good .least)) (le-leb (t .head .n) _ (omega (arith, good .most))))
+      (both _ _ (le-leb 1 (t .head .nap) (good .naps)) (all-below (fitsAt t) (t .head .n) process-fits))

@@ -54,30 +54,32 @@ module _ {t : ProcessTable} (good : Good t) (p : ℕ) where
         put-view (put t q y) p x (omega (arith, good .long, good .most, length-set (t .processes) q y))
         ∙ ap (λ (v : View). upd v p x) (put-view t q y (omega (arith, good .long, good .most)))
 
-    good-put : Inv (t .head) (upd (process t) p x) → AllFormed (t .head .n) (upd (process t) p x) → Good (put t p x)
+    good-put : Inv (t .head) (upd (process t) p x) → AllFormed (t .head .n) (t .head .nap) (upd (process t) p x) → Good (put t p x)
     good-put inv f = record {
       long = length-set (t .processes) p x ∙ good .long;
       least = good .least;
       most = good .most;
+      naps = good .naps;
       inv = rw put-one inv;
-      formed = subst⁻¹ (AllFormed (t .head .n)) put-one f;
+      formed = subst⁻¹ (AllFormed (t .head .n) (t .head .nap)) put-one f;
     }
 
   good-applied : p < t .head .n → (q : ℕ) → q < t .head .n → (effect : Effect) → Inv (t .head) (effected (process t) p q effect)
-      → AllFormed (t .head .n) (effected (process t) p q effect) → Good (applied t p q effect .table)
+      → AllFormed (t .head .n) (t .head .nap) (effected (process t) p q effect) → Good (applied t p q effect .table)
   good-applied h q l Neither inv f = good
   good-applied h q l (Own x) inv f = good-put x h inv f
   good-applied h q l (Both x y) inv f = record {
     long = length-set (set (t .processes) q y) p x ∙ length-set (t .processes) q y ∙ good .long;
     least = good .least;
     most = good .most;
+    naps = good .naps;
     inv = rw (put-two x h q y l) inv;
-    formed = subst⁻¹ (AllFormed (t .head .n)) (put-two x h q y l) f;
+    formed = subst⁻¹ (AllFormed (t .head .n) (t .head .nap)) (put-two x h q y l) f;
   }
 
   good-stepped : p < t .head .n → Good (stepped t p .table)
   unfolding stepped effectOn
-  good-stepped h = good-applied h (partnerOf (process t p)) partner-below (effectOn t p) (inv-rule (process t) (good .inv) p) (formed-rule (process t) (good .inv) (good .formed) p)
+  good-stepped h = good-applied h (partnerOf (process t p)) partner-below (effectOn t p) (inv-rule (process t) (good .inv) p) (formed-rule (process t) (good .inv) (good .formed) p (good .naps))
 
   good-offered : (gs : List Guard) → Admitted t p (lent gs) → Good (offered t p (lent gs) .table)
   unfolding offered entering lent listFits
@@ -90,14 +92,15 @@ module _ {t : ProcessTable} (good : Good t) (p : ℕ) where
         long = length-set (t .processes) p _ ∙ good .long;
         least = good .least;
         most = good .most;
+        naps = good .naps;
         inv = rw (put-one x (a .below)) (inv-offered (process t) (good .inv) p (lent gs) (idle-is _ (a .idle)) (a .below) fits);
-        formed = subst⁻¹ (AllFormed (t .head .n)) (put-one x (a .below)) (with-own (process t) (good .inv) (good .formed) p x (record { posted = good .formed p .posted; signal = rw silent refl; outcome = tt }));
+        formed = subst⁻¹ (AllFormed (t .head .n) (t .head .nap)) (put-one x (a .below)) (with-own (process t) (good .inv) (good .formed) p x (record { posted = good .formed p .posted; signal = rw silent refl; place = tt }));
       }
 
   good-withdrawn : p < t .head .n → isOpen (process t p) ≡ true → Good (put t p (givenUp (process t p)))
   good-withdrawn h o =
       let f = good .formed p in
-      good-put _ h (inv-withdrawn (process t) (good .inv) p o) (with-own (process t) (good .inv) (good .formed) p _ (record { posted = f .posted; signal = f .signal; outcome = tt }))
+      good-put _ h (inv-withdrawn (process t) (good .inv) p o) (with-own (process t) (good .inv) (good .formed) p _ (record { posted = f .posted; signal = f .signal; place = tt }))
 
 pub good-after : (t : ProcessTable) → Good t → (c : Call) → Good (tableAfter t c)
 unfolding replyTo
@@ -107,8 +110,8 @@ good-after t good (Collect p) = collect-elim (λ r. Good (r .table)) t (λ r. go
 good-after t good (Withdraw p) = withdraw-elim (λ r. Good (r .table)) t (λ r. good) p good (good-withdrawn good p)
 
 -- the records of a fresh table
-pub fresh-each : (P : Process → Type 0) → P freshProcess → P nobody → (n p : ℕ) → P (process (freshTable n) p)
-fresh-each P a b n p = split p mostProcesses (λ h. rw (getD-replicate mostProcesses p freshProcess nobody h) a) (λ h. rw (List·getD-eq-default (replicate mostProcesses freshProcess) nobody {n = p} h) b)
+pub fresh-each : (P : Process → Type 0) → P freshProcess → P nobody → (n d p : ℕ) → P (process (freshTable n d) p)
+fresh-each P a b n d p = split p mostProcesses (λ h. rw (getD-replicate mostProcesses p freshProcess nobody h) a) (λ h. rw (List·getD-eq-default (replicate mostProcesses freshProcess) nobody {n = p} h) b)
 
 idle-paired : (p q : ℕ) (x y : Process) → x .place ≡ Place.Idle → Paired p q x y
 idle-paired p q x y e = record {
@@ -120,17 +123,18 @@ idle-paired p q x y e = record {
   differ = λ b c f. true≢false (rw e at b);
 }
 
-pub good-fresh : (n : ℕ) → 2 ≤ n → n ≤ mostProcesses → Good (freshTable n)
+pub good-fresh : (n d : ℕ) → 2 ≤ n → n ≤ mostProcesses → 1 ≤ d → Good (freshTable n d)
 unfolding listFits allGuards
-good-fresh n a b = record {
+good-fresh n d a b c = record {
   long = refl;
   least = a;
   most = b;
+  naps = c;
   inv = record {
-    alone = λ p. fresh-each (Alone (freshHead n) p)
+    alone = λ p. fresh-each (Alone (freshHead n d) p)
         (record { fine = (refl, refl); own = refl; on = tt; there = λ b. absurd (true≢false b); given = λ b. absurd (true≢false b) })
-        (record { fine = (refl, refl); own = refl; on = tt; there = λ b. absurd (true≢false b); given = λ b. absurd (true≢false b) }) n p;
-    paired = λ p q _. idle-paired p q _ _ (fresh-each (λ x. x .place ≡ Place.Idle) refl refl n p);
+        (record { fine = (refl, refl); own = refl; on = tt; there = λ b. absurd (true≢false b); given = λ b. absurd (true≢false b) }) n d p;
+    paired = λ p q _. idle-paired p q _ _ (fresh-each (λ x. x .place ≡ Place.Idle) refl refl n d p);
   };
-  formed = λ p. fresh-each (Formed n p) (record { posted = refl; signal = refl; outcome = tt }) (record { posted = refl; signal = refl; outcome = tt }) n p;
+  formed = λ p. fresh-each (Formed n d p) (record { posted = refl; signal = refl; place = tt }) (record { posted = refl; signal = refl; place = tt }) n d p;
 }

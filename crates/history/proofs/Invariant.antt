@@ -14,7 +14,7 @@ use Rattle.process.specs.declared.State.{State}
 use Rattle.process.specs.declared.Process.{Process}
 use Rattle.rendezvous.specs.declared.Head.{Head}
 use Rattle.rendezvous.specs.declared.ProcessTable.{ProcessTable}
-use Rattle.process.specs.Process.{stateOf, indexOf, ifMet, ifCommitted, ownList, postedList, ownGuard, isIdle}
+use Rattle.process.specs.Process.{stateOf, indexOf, carried, ifCommitted, ownList, postedList, ownGuard, isIdle}
 use Rattle.rendezvous.specs.Table.{mostProcesses, process}
 use Rattle.process.specs.Fits.{listFits, signalFits}
 use Rattle.history.proofs.View.{View}
@@ -29,7 +29,7 @@ Past (Place.Committed i j) accepting k = ⊥
 Past Place.Posting accepting k = Unit {0}
 Past Place.Opening accepting k = Unit {0}
 Past Place.Showing accepting k = accepting ≡ true
-Past Place.Asleep accepting k = ⊥
+Past (Place.Asleep s) accepting k = ⊥
 Past Place.Waiting accepting k = accepting ≡ true
 Past (Place.Met i m) accepting k = ⊥
 
@@ -43,7 +43,7 @@ Tries (Place.Committed i j) k = ⊥
 Tries Place.Posting k = ⊥
 Tries Place.Opening k = ⊥
 Tries Place.Showing k = ⊥
-Tries Place.Asleep k = ⊥
+Tries (Place.Asleep s) k = ⊥
 Tries Place.Waiting k = ⊥
 Tries (Place.Met i m) k = ⊥
 
@@ -61,7 +61,7 @@ Shows (Place.Committed i j) = ⊥
 Shows Place.Posting = ⊥
 Shows Place.Opening = ⊥
 Shows Place.Showing = Unit {0}
-Shows Place.Asleep = ⊥
+Shows (Place.Asleep s) = ⊥
 Shows Place.Waiting = Unit {0}
 Shows (Place.Met i m) = ⊥
 
@@ -112,7 +112,7 @@ Fine (Place.Committed i j) gs hs accepting signal = Calm accepting signal
 Fine Place.Posting gs hs accepting signal = Calm accepting signal
 Fine Place.Opening gs hs accepting signal = Calm accepting signal × (hs ≡ gs)
 Fine Place.Showing gs hs accepting signal = Shown gs hs accepting signal
-Fine Place.Asleep gs hs accepting signal = Calm accepting signal
+Fine (Place.Asleep s) gs hs accepting signal = Calm accepting signal
 Fine Place.Waiting gs hs accepting signal = Shown gs hs accepting signal
 Fine (Place.Met i m) gs hs accepting signal = Calm accepting signal
 
@@ -148,23 +148,24 @@ pub record Inv (h : Head) (v : View) : Type 0 where
   pub alone : (p : ℕ) → Alone h p (v p)
   pub paired : (p q : ℕ) → (p ≡ q → ⊥) → Paired p q (v p) (v q)
 
--- the index of an outcome has a guard in a list of count guards
-abbrev pub OutcomeFits : ℕ → Place → Type 0
-OutcomeFits count place = ifMet (Unit {0}) (λ i m. ltb i count ≡ true) place
+-- the steps made at S are fewer than d, and the index of an outcome has a guard in a list of count guards
+abbrev pub PlaceFormed : ℕ → ℕ → Place → Type 0
+PlaceFormed d count place = carried (Unit {0}) (λ i. Unit {0}) (λ i j. Unit {0}) (λ s. ltb s d ≡ true) (λ i m. ltb i count ≡ true) place
 
--- Of the record x of process p: the posted list, the signal and the outcome are as refusal 7 asks.
-pub record Formed (n p : ℕ) (x : Process) : Type 0 where
+-- Of the record x of process p, in a table of n with nap length d: the posted list, the signal, the steps at S and the outcome are as refusal 7 asks.
+pub record Formed (n d p : ℕ) (x : Process) : Type 0 where
   pub posted : listFits n p (x .altcount) (x .altlist) ≡ true
   pub signal : signalFits (x .count) (x .signal) ≡ true
-  pub outcome : OutcomeFits (x .count) (x .place)
+  pub place : PlaceFormed d (x .count) (x .place)
 
-abbrev pub AllFormed : ℕ → View → Type 0
-AllFormed n v = (p : ℕ) → Formed n p (v p)
+abbrev pub AllFormed : ℕ → ℕ → View → Type 0
+AllFormed n d v = (p : ℕ) → Formed n d p (v p)
 
 -- a table from which every list of calls goes well
 pub record Good (t : ProcessTable) : Type 0 where
   pub long : length (t .processes) ≡ mostProcesses
   pub least : 2 ≤ t .head .n
   pub most : t .head .n ≤ mostProcesses
+  pub naps : 1 ≤ t .head .nap
   pub inv : Inv (t .head) (process t)
-  pub formed : AllFormed (t .head .n) (process t)
+  pub formed : AllFormed (t .head .n) (t .head .nap) (process t)

@@ -6,6 +6,7 @@ use mathlib.Core.Bool.{Bool, true, false, false≢true, true≢false}
 use mathlib.Core.Logic.{inl, inr}
 use native.Mathlib.Omega.{arith}
 use lib.ListN.{take}
+use lib.Dec.{ltb}
 use Rattle.alternative.specs.declared.Message.{Message}
 use Rattle.alternative.specs.declared.Guard.{Guard}
 use Rattle.alternative.specs.declared.GuardList.{GuardList}
@@ -16,7 +17,7 @@ use Rattle.process.specs.declared.Place.{Place}
 use Rattle.process.specs.declared.State.{State}
 use Rattle.process.specs.declared.Process.{Process}
 use Rattle.process.specs.Process.{stateOf, indexOf, ownList, postedList, ownGuard, postedGuard, isIdle, isOpen}
-use Rattle.process.specs.Rules.{atPlace, withSignal, withAccepting, scanAt, scanFrom, scan, try, handOver, absorb, ruleAt, rule, namedBy, partnerOf}
+use Rattle.process.specs.Rules.{atPlace, withSignal, withAccepting, scanAt, scanFrom, sleepAt, scan, try, handOver, absorb, ruleAt, rule, namedBy, partnerOf}
 use Rattle.process.specs.Fits.{listFits}
 use Rattle.rendezvous.specs.Table.{withNext}
 use Rattle.rendezvous.specs.Calls.{entering, givenUp}
@@ -76,8 +77,8 @@ module _ {head : Head} (v : View) (inv : Inv head v) (p : ℕ) where
       (λ k r l ne f m h. split k i (λ a. a) (λ a. absurd (apart r l (rw (named i k r l (omega arith) f) q) m)))
     where
       apart : (r l : ℕ) → Quiet (v r .place) → Near (v r) l → ⊥
-      apart r l q (past b) = quiet-elim (λ at. Past at (v r .accepting) l → ⊥) (λ a. a) (λ a. a) (λ a. a) (λ i m a. a) (v r .place) q b
-      apart r l q (trying b) = quiet-elim (λ at. Tries at l → ⊥) (λ a. a) (λ a. a) (λ a. a) (λ i m a. a) (v r .place) q b
+      apart r l q (past b) = quiet-elim (λ at. Past at (v r .accepting) l → ⊥) (λ a. a) (λ a. a) (λ s a. a) (λ i m a. a) (v r .place) q b
+      apart r l q (trying b) = quiet-elim (λ at. Tries at l → ⊥) (λ a. a) (λ a. a) (λ s a. a) (λ i m a. a) (v r .place) q b
 
   -- rule 4: the partner waits
   rule-4 : (i : ℕ) → v p .place ≡ Place.Scanning i → Waits (v (ownGuard (v p) i .partner) .place) → Inv head (upd v p (atPlace (v p) (Place.Trying i)))
@@ -218,6 +219,10 @@ module _ {head : Head} (v : View) (inv : Inv head v) (p i j : ℕ) where
 
 -- The rules, by the place and what they read. Most say nothing new of any guard, so that nothing is left to show but what holds of the mover alone.
 module _ {head : Head} (v : View) (inv : Inv head v) (p : ℕ) where
+  inv-sleep : (s : ℕ) → v p .place ≡ Place.Asleep s → (early : Bool) → Inv head (effected v p 0 (sleepAt (v p) s early))
+  inv-sleep s e true = moves v inv p _ e _ _ _ (fine v inv p _ e) tt (search (absurd, free v inv p _ e))
+  inv-sleep s e false = enter v inv p _ _ e (λ a. a) refl (fine v inv p _ e)
+
   inv-scan : (i : ℕ) → v p .place ≡ Place.Scanning i → let q = ownGuard (v p) i .partner in (s : State) → stateOf (v q .place) ≡ s → (older : Bool) → Inv head (effected v p q (scan (v p) i s older))
   inv-scan i e State.Running f older = rule-3 v inv p i e (rw f tt)
   inv-scan i e State.Sleeping f older = rule-3 v inv p i e (rw f tt)
@@ -238,7 +243,7 @@ module _ {head : Head} (v : View) (inv : Inv head v) (p : ℕ) where
       let b : (x : Process) → Held v p → Bound x = λ x h. absurd (absent-present _ j m (held v inv p h .deaf) f) in
       moves v inv p _ e _ _ _ (told-woken _ _ j m (fine v inv p _ e .deaf) f, refl) tt (search (absurd, b))
 
-  inv-at : (pl : Place) → v p .place ≡ pl → let q = namedBy (v p) (indexOf pl) in Inv head (effected v p q (ruleAt p (v p) q (v q) pl))
+  inv-at : (pl : Place) → v p .place ≡ pl → let q = namedBy (v p) (indexOf pl) in Inv head (effected v p q (ruleAt (head .nap) p (v p) q (v q) pl))
   unfolding handOver
   inv-at Place.Idle e = inv
   inv-at Place.Entering e = enter v inv p _ _ e (λ a. a) refl (fine v inv p _ e)
@@ -248,11 +253,11 @@ module _ {head : Head} (v : View) (inv : Inv head v) (p : ℕ) where
   inv-at Place.Posting e = tame v inv p _ e _ refl refl (search (absurd, free v inv p _ e)) (fine v inv p _ e, refl) (inv .alone p .own) tt
   inv-at Place.Opening e = let f = fine v inv p _ e in moves v inv p _ e _ _ _ (record { posted = f .1; deaf = λ _. f .0 .1 }) tt (search (absurd, free v inv p _ e))
   inv-at Place.Showing e = moves v inv p _ e _ _ _ (fine v inv p _ e) tt (search (absurd, still v inv p))
-  inv-at Place.Asleep e = enter v inv p _ _ e (λ a. a) refl (fine v inv p _ e)
+  inv-at (Place.Asleep s) e = inv-sleep s e (ltb (s + 1) (head .nap))
   inv-at Place.Waiting e = inv-absorb e (v p .signal) refl
   inv-at (Place.Met i m) e = inv
 
 -- a step keeps the invariant
-pub inv-rule : {head : Head} (v : View) → Inv head v → (p : ℕ) → let q = partnerOf (v p) in Inv head (effected v p q (rule p (v p) q (v q)))
+pub inv-rule : {head : Head} (v : View) → Inv head v → (p : ℕ) → let q = partnerOf (v p) in Inv head (effected v p q (rule (head .nap) p (v p) q (v q)))
 unfolding rule
 inv-rule v inv p = inv-at v inv p (v p .place) refl

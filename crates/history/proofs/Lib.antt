@@ -14,6 +14,8 @@ pub mod Invariant
 pub mod Keeps
 pub mod KindCases
 pub mod Matches
+pub mod NapCases
+pub mod NapsLast
 pub mod NothingLost
 pub mod Once
 pub mod OneKind

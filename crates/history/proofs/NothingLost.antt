@@ -51,7 +51,7 @@ module _ (t : ProcessTable) (good : Good t) (awaited : Awaited (process t)) (non
   owed-met p (Place.Trying i) e o = absurd (false≢true o)
   owed-met p Place.Posting e o = absurd (false≢true o)
   owed-met p Place.Opening e o = absurd (false≢true o)
-  owed-met p Place.Asleep e o = absurd (false≢true o)
+  owed-met p (Place.Asleep s) e o = absurd (false≢true o)
 
 module _ (t : ProcessTable) (good : Good t) where
   -- a collection from a process at M gives its outcome
@@ -70,6 +70,6 @@ module _ (t : ProcessTable) (good : Good t) where
   }
 
 pub nothing-lost : NothingLost
-nothing-lost n least most calls =
-    let c = reached n least most calls in
+nothing-lost n d least most naps calls =
+    let c = reached n d least most naps calls in
     (c .book, c .never-stuck, none-lost _ (c .related .good) (c .book) (c .related .in-step))

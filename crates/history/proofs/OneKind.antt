@@ -22,4 +22,4 @@ each-gives m F G gives s b [] each = tt
 each-gives m F G gives s b (c ∷ cs) each = λ after e. let now = each after e in (gives b c _ after (now .0), each-gives m F G gives _ after cs (now .1))
 
 pub kinds-never-cross : KindsNeverCross
-kinds-never-cross n least most calls = each-gives _ EntryJoins OfOneKind of-one-kind _ _ calls (demand3 n least most calls .joins)
+kinds-never-cross n d least most naps calls = each-gives _ EntryJoins OfOneKind of-one-kind _ _ calls (demand3 n d least most naps calls .joins)

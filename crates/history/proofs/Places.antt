@@ -22,7 +22,7 @@ shows-elim P a b (Place.Committed i j) s = absurd s
 shows-elim P a b Place.Posting s = absurd s
 shows-elim P a b Place.Opening s = absurd s
 shows-elim P a b Place.Showing s = a
-shows-elim P a b Place.Asleep s = absurd s
+shows-elim P a b (Place.Asleep k) s = absurd s
 shows-elim P a b Place.Waiting s = b
 shows-elim P a b (Place.Met i m) s = absurd s
 
@@ -40,12 +40,12 @@ waits-elim P a (Place.Committed i j) w = absurd w
 waits-elim P a Place.Posting w = absurd w
 waits-elim P a Place.Opening w = absurd w
 waits-elim P a Place.Showing w = absurd w
-waits-elim P a Place.Asleep w = absurd w
+waits-elim P a (Place.Asleep s) w = absurd w
 waits-elim P a Place.Waiting w = a
 waits-elim P a (Place.Met i m) w = absurd w
 
 -- a fact of the places that rule 3 passes
-pub quiet-elim : (P : Place → Type 0) → P Place.Idle → P Place.Entering → P Place.Asleep → ((i : ℕ) (m : Message) → P (Place.Met i m)) → (pl : Place) → Quiet pl → P pl
+pub quiet-elim : (P : Place → Type 0) → P Place.Idle → P Place.Entering → ((s : ℕ) → P (Place.Asleep s)) → ((i : ℕ) (m : Message) → P (Place.Met i m)) → (pl : Place) → Quiet pl → P pl
 quiet-elim P a b c d Place.Idle q = a
 quiet-elim P a b c d Place.Entering q = b
 quiet-elim P a b c d (Place.Scanning i) q = absurd q
@@ -54,7 +54,7 @@ quiet-elim P a b c d (Place.Committed i j) q = absurd q
 quiet-elim P a b c d Place.Posting q = absurd q
 quiet-elim P a b c d Place.Opening q = absurd q
 quiet-elim P a b c d Place.Showing q = absurd q
-quiet-elim P a b c d Place.Asleep q = c
+quiet-elim P a b c d (Place.Asleep s) q = c s
 quiet-elim P a b c d Place.Waiting q = absurd q
 quiet-elim P a b c d (Place.Met i m) q = d i m
 
@@ -68,7 +68,7 @@ accepting-shows (Place.Committed i j) gs hs a s f e = false≢true (sym (f .0) �
 accepting-shows Place.Posting gs hs a s f e = false≢true (sym (f .0) ∙ e)
 accepting-shows Place.Opening gs hs a s f e = false≢true (sym (f .0 .0) ∙ e)
 accepting-shows Place.Showing gs hs a s f e = tt
-accepting-shows Place.Asleep gs hs a s f e = false≢true (sym (f .0) ∙ e)
+accepting-shows (Place.Asleep k) gs hs a s f e = false≢true (sym (f .0) ∙ e)
 accepting-shows Place.Waiting gs hs a s f e = tt
 accepting-shows (Place.Met i m) gs hs a s f e = false≢true (sym (f .0) ∙ e)
 
@@ -82,7 +82,7 @@ open-silent (Place.Committed i j) gs hs a s f o = absurd (false≢true o)
 open-silent Place.Posting gs hs a s f o = f .1
 open-silent Place.Opening gs hs a s f o = f .0 .1
 open-silent Place.Showing gs hs a s f o = f .deaf o
-open-silent Place.Asleep gs hs a s f o = f .1
+open-silent (Place.Asleep k) gs hs a s f o = f .1
 open-silent Place.Waiting gs hs a s f o = f .deaf o
 open-silent (Place.Met i m) gs hs a s f o = absurd (false≢true o)
 
@@ -96,7 +96,7 @@ idle-is (Place.Committed i j) e = absurd (false≢true e)
 idle-is Place.Posting e = absurd (false≢true e)
 idle-is Place.Opening e = absurd (false≢true e)
 idle-is Place.Showing e = absurd (false≢true e)
-idle-is Place.Asleep e = absurd (false≢true e)
+idle-is (Place.Asleep s) e = absurd (false≢true e)
 idle-is Place.Waiting e = absurd (false≢true e)
 idle-is (Place.Met i m) e = absurd (false≢true e)
 

@@ -6,7 +6,6 @@ use mathlib.Core.Option.{some, none, Option·none-ne-some}
 use native.Mathlib.Omega.{arith}
 use lib.Dec.{ltb}
 use borrow.Author.Tests.{ltb-true, ltb-false}
-use Rattle.alternative.specs.declared.Found.{Found}
 use Rattle.alternative.specs.Guards.{keptMatch, offersMatch}
 use Rattle.process.specs.declared.Place.{Place}
 use Rattle.process.specs.declared.State.{State}
@@ -14,7 +13,8 @@ use Rattle.process.specs.declared.Process.{Process}
 use Rattle.rendezvous.specs.declared.ProcessTable.{ProcessTable}
 use Rattle.process.specs.Process.{stateOf, indexOf, ownList, postedList, ownGuard, openAt, isOpen}
 use Rattle.rendezvous.specs.Table.{process, hasOpenOffer}
-use Rattle.process.specs.Rules.{scanFrom, scan, try, handOver, ruleAt, rule, namedBy, changes}
+use Rattle.process.specs.Rules.{scanFrom, scan, handOver, ruleAt, rule, namedBy, changes}
+use Rattle.process.proofs.Movers.{sleep-changes, try-changes}
 use Rattle.rendezvous.specs.Calls.{effectOn}
 use Rattle.alternative.proofs.Tests.{and-parts}
 use Rattle.history.specs.Book.{Transaction}
@@ -36,17 +36,10 @@ scan-stopped x y i State.Waiting e older f c = absurd (true≢false c)
 scan-stopped x y i State.Alt e true f c = absurd (true≢false c)
 scan-stopped x y i State.Alt e false f c = record { busy = e; younger = ltb-false _ _ f }
 
-try-changes : (x : Process) (i : ℕ) (y : Process) (accepting : Bool) (found : Found) → changes (try x i y accepting found) ≡ true
-unfolding scanFrom
-try-changes x i y true (Found.At j) = refl
-try-changes x i y true Found.Missing = refl
-try-changes x i y false (Found.At j) = refl
-try-changes x i y false Found.Missing = refl
-
 -- what a process p that does not move says of its place
-module _ (p : ℕ) (x : Process) (q : ℕ) (y : Process) where
+module _ (d p : ℕ) (x : Process) (q : ℕ) (y : Process) where
   -- one with the word ALT is at A
-  scans : (pl : Place) → stateOf pl ≡ State.Alt → changes (ruleAt p x q y pl) ≡ false → (i : ℕ) × (pl ≡ Place.Scanning i)
+  scans : (pl : Place) → stateOf pl ≡ State.Alt → changes (ruleAt d p x q y pl) ≡ false → (i : ℕ) × (pl ≡ Place.Scanning i)
   unfolding handOver
   scans (Place.Scanning i) w c = (i, refl)
   scans (Place.Trying i) w c = absurd (true≢false (sym (try-changes x i y (y .accepting) (keptMatch p (ownGuard x i) q (postedList y))) ∙ c))
@@ -56,17 +49,17 @@ module _ (p : ℕ) (x : Process) (q : ℕ) (y : Process) where
   scans Place.Showing w c = absurd (true≢false c)
   scans Place.Idle w c = absurd (subst QuietState w tt)
   scans Place.Entering w c = absurd (subst QuietState w tt)
-  scans Place.Asleep w c = absurd (subst QuietState w tt)
+  scans (Place.Asleep s) w c = absurd (subst QuietState w tt)
   scans Place.Waiting w c = absurd (subst WaitingState w tt)
   scans (Place.Met i m) w c = absurd (subst QuietState w tt)
 
   -- one with an open offer is at A, or past all its guards
-  rests-past : (pl : Place) → changes (ruleAt p x q y pl) ≡ false → openAt pl (x .accepting) ≡ true → ((i : ℕ) → pl ≡ Place.Scanning i → ⊥) → (k : ℕ) → Past pl (x .accepting) k
+  rests-past : (pl : Place) → changes (ruleAt d p x q y pl) ≡ false → openAt pl (x .accepting) ≡ true → ((i : ℕ) → pl ≡ Place.Scanning i → ⊥) → (k : ℕ) → Past pl (x .accepting) k
   unfolding scanFrom
   rests-past (Place.Scanning i) c o n k = absurd (n i refl)
   rests-past (Place.Trying i) c o n k = absurd (true≢false (sym (try-changes x i y (y .accepting) (keptMatch p (ownGuard x i) q (postedList y))) ∙ c))
   rests-past Place.Entering c o n k = true≢false c
-  rests-past Place.Asleep c o n k = true≢false c
+  rests-past (Place.Asleep s) c o n k = true≢false (sym (sleep-changes x s (ltb (s + 1) d)) ∙ c)
   rests-past Place.Posting c o n k = tt
   rests-past Place.Opening c o n k = tt
   rests-past Place.Showing c o n k = o
@@ -80,9 +73,9 @@ abbrev pub Still : ProcessTable → Type 0
 Still t = (p : ℕ) → p < t .head .n → changes (effectOn t p) ≡ false
 
 module _ (t : ProcessTable) (good : Good t) (none-moves : Still t) where
-  pub still : (p : ℕ) → p < t .head .n → (pl : Place) → process t p .place ≡ pl → let q = namedBy (process t p) (indexOf pl) in changes (ruleAt p (process t p) q (process t q) pl) ≡ false
+  pub still : (p : ℕ) → p < t .head .n → (pl : Place) → process t p .place ≡ pl → let q = namedBy (process t p) (indexOf pl) in changes (ruleAt (t .head .nap) p (process t p) q (process t q) pl) ≡ false
   unfolding effectOn rule
-  still p h pl e = subst (λ (l : Place). let q = namedBy (process t p) (indexOf l) in changes (ruleAt p (process t p) q (process t q) l) ≡ false) e
+  still p h pl e = subst (λ (l : Place). let q = namedBy (process t p) (indexOf l) in changes (ruleAt (t .head .nap) p (process t p) q (process t q) l) ≡ false) e
       (none-moves p h)
 
   -- No process is at A: its partner would be at A too, with a greater ticket, and so on.
@@ -93,7 +86,7 @@ module _ (t : ProcessTable) (good : Good t) (none-moves : Still t) where
       let q = at-names (process t) (good .inv) p i (rw e refl) in
       let y = process t (ownGuard x i .partner) in
       let s = scan-stopped x y i _ refl _ refl (still p h _ e) in
-      let a = scans _ y _ _ (y .place) (s .busy) (still _ (q .below) _ refl) in
+      let a = scans _ _ y _ _ (y .place) (s .busy) (still _ (q .below) _ refl) in
       let d = good .inv .paired p _ (q .other) .differ (rw e refl) (rw (a .1) refl) in
       none-scans fuel _ (a .0) (q .below) (a .1) (grows (x .transaction .0) (y .transaction .0) fuel (t .head .next .0) (s .younger) d l)
     where
@@ -109,7 +102,7 @@ module _ (t : ProcessTable) (good : Good t) (none-moves : Still t) where
       at true f e =
           let a = and-parts (ltb p (t .head .n)) (isOpen (process t p)) f in
           let h = ltb-true p (t .head .n) (a .0) in
-          (rests-past p _ _ _ (process t p .place) (still p h _ refl) (a .1) (λ i s. none-scans (t .head .next .0) p i h s (omega arith)), cc)
+          (rests-past _ p _ _ _ (process t p .place) (still p h _ refl) (a .1) (λ i s. none-scans (t .head .next .0) p i h s (omega arith)), cc)
       at false f e = absurd (Option·none-ne-some o e)
 
   pub at-rest : (p q : ℕ) (o r : Transaction) → (p ≡ q → ⊥) → openOffer t p ≡ some o → openOffer t q ≡ some r → offersMatch p (o .guards) q (r .guards) ≡ false

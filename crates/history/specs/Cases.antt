@@ -20,6 +20,10 @@ pub record Case : Type 0 where
   pub commands : List Command
   pub says : List Said
 
+-- "`n N` without a second number means 1" (CR 3 of document 02)
+abbrev pub makes : ℕ → Command
+makes n = New n 1
+
 abbrev pub offers : ℕ → List Guard → Command
 offers p gs = Do (Offer p gs)
 
@@ -47,7 +51,7 @@ disabled q = record { enabled = false; partner = q; kind = 0; action = Action.Re
 
 -- a fresh table of two processes, but for its next ticket
 abbrev from : ℕ → ProcessTable
-from next = record { head = withNext (freshHead 2) next; processes = replicate mostProcesses freshProcess }
+from next = record { head = withNext (freshHead 2 1) next; processes = replicate mostProcesses freshProcess }
 
 -- a place by its letter, with the guard index at A, T and C
 abbrev pub at : Char → Option ℕ → Said
@@ -62,7 +66,7 @@ sessionCalls m =
     ∷ Collect 1 ∷ Collect 0 ∷ []
 
 abbrev pub session : Message → List Command
-session m = New 2 ∷ (map Do (sessionCalls m) ++ (Movers ∷ []))
+session m = makes 2 ∷ (map Do (sessionCalls m) ++ (Movers ∷ []))
 
 abbrev pub sessionSays : Message → List Said
 sessionSays m =
@@ -72,33 +76,33 @@ sessionSays m =
     ∷ outcome 0 0 m ∷ outcome 0 1 Message.Nothing ∷ movers 0 ∷ []
 
 abbrev pub case : List Command → List Said → Case
-case commands says = record { start = freshTable 0; commands = commands; says = says }
+case commands says = record { start = freshTable 0 0; commands = commands; says = says }
 
 unfoldable pub starred : List Case
 starred =
     -- n 1 gives 1; n 2 and 32 are made; n 33 gives 1
-    case (New 1 ∷ []) (refusal 1 ∷ [])
-    ∷ case (New 2 ∷ []) (made ∷ [])
-    ∷ case (New 32 ∷ offers 31 (receive 0 ∷ []) ∷ offers 32 (receive 0 ∷ []) ∷ []) (made ∷ ticket 0 ∷ refusal 2 ∷ [])
-    ∷ case (New 33 ∷ []) (refusal 1 ∷ [])
+    case (makes 1 ∷ []) (refusal 1 ∷ [])
+    ∷ case (makes 2 ∷ []) (made ∷ [])
+    ∷ case (makes 32 ∷ offers 31 (receive 0 ∷ []) ∷ offers 32 (receive 0 ∷ []) ∷ []) (made ∷ ticket 0 ∷ refusal 2 ∷ [])
+    ∷ case (makes 33 ∷ []) (refusal 1 ∷ [])
     -- no guards gives 3; nine gives 3
-    ∷ case (New 2 ∷ offers 0 [] ∷ []) (made ∷ refusal 3 ∷ [])
-    ∷ case (New 2 ∷ offers 0 (replicate 9 (receive 1)) ∷ []) (made ∷ refusal 3 ∷ [])
+    ∷ case (makes 2 ∷ offers 0 [] ∷ []) (made ∷ refusal 3 ∷ [])
+    ∷ case (makes 2 ∷ offers 0 (replicate 9 (receive 1)) ∷ []) (made ∷ refusal 3 ∷ [])
     -- a guard to oneself gives 4, also while busy
-    ∷ case (New 2 ∷ offers 0 (receive 0 ∷ []) ∷ []) (made ∷ refusal 4 ∷ [])
-    ∷ case (New 2 ∷ offers 0 (receive 1 ∷ []) ∷ offers 0 (receive 0 ∷ []) ∷ []) (made ∷ ticket 0 ∷ refusal 4 ∷ [])
+    ∷ case (makes 2 ∷ offers 0 (receive 0 ∷ []) ∷ []) (made ∷ refusal 4 ∷ [])
+    ∷ case (makes 2 ∷ offers 0 (receive 1 ∷ []) ∷ offers 0 (receive 0 ∷ []) ∷ []) (made ∷ ticket 0 ∷ refusal 4 ∷ [])
     -- r7fc00000 gives 5; r80000000 arrives as r80000000
-    ∷ case (New 2 ∷ offers 0 (send 1 0x7fc00000 ∷ []) ∷ []) (made ∷ refusal 5 ∷ [])
+    ∷ case (makes 2 ∷ offers 0 (send 1 0x7fc00000 ∷ []) ∷ []) (made ∷ refusal 5 ∷ [])
     ∷ case (session (reading 0x80000000)) (sessionSays (reading 0x80000000))
     -- only disabled guards: 6; a second offer while open: 11
-    ∷ case (New 2 ∷ offers 0 (disabled 1 ∷ disabled 1 ∷ []) ∷ []) (made ∷ refusal 6 ∷ [])
-    ∷ case (New 2 ∷ offers 0 (receive 1 ∷ []) ∷ offers 0 (receive 1 ∷ []) ∷ []) (made ∷ ticket 0 ∷ refusal 11 ∷ [])
+    ∷ case (makes 2 ∷ offers 0 (disabled 1 ∷ disabled 1 ∷ []) ∷ []) (made ∷ refusal 6 ∷ [])
+    ∷ case (makes 2 ∷ offers 0 (receive 1 ∷ []) ∷ offers 0 (receive 1 ∷ []) ∷ []) (made ∷ ticket 0 ∷ refusal 11 ∷ [])
     -- next ticket 4,294,967,294 is given out; at 4,294,967,295: 12
     ∷ record { start = from 4294967294; commands = offers 0 (receive 1 ∷ []) ∷ offers 1 (receive 0 ∷ []) ∷ []; says = ticket 4294967294 ∷ refusal 12 ∷ [] }
     ∷ record { start = from 4294967295; commands = offers 0 (receive 1 ∷ []) ∷ []; says = refusal 12 ∷ [] }
     -- parties 0 and 1, one guard each, at A on each other, tickets 0 and 1: a step of 0 changes nothing; a step of 1 puts it to S; then a step of 0 goes to P
     ∷ case
-    (New 2 ∷ offers 0 (send 1 0x40970a3d ∷ []) ∷ offers 1 (receive 0 ∷ []) ∷ steps 0 ∷ steps 1 ∷ steps 0 ∷ steps 1 ∷ steps 0 ∷ [])
+    (makes 2 ∷ offers 0 (send 1 0x40970a3d ∷ []) ∷ offers 1 (receive 0 ∷ []) ∷ steps 0 ∷ steps 1 ∷ steps 0 ∷ steps 1 ∷ steps 0 ∷ [])
     (made ∷ ticket 0 ∷ ticket 1 ∷ at "A" (some 0) ∷ at "A" (some 0) ∷ same ∷ at "S" none ∷ at "P" none ∷ [])
     -- the session, whose reading is 4.72
     ∷ case (session (reading 0x40970a3d)) (sessionSays (reading 0x40970a3d))

@@ -78,6 +78,6 @@ pub record Claim (m : Machine) (s : m .State) (b : History) (calls : List Call) 
       → m .opened (afterAll (m .after) s calls) p ≡ some o → m .opened (afterAll (m .after) s calls) q ≡ some r → offersMatch p (o .guards) q (r .guards) ≡ false
 
 -- "For every list of offers, steps and collections, in any order and with refused ones among them, from any fresh desk, where each call gets the desk that the last one
--- handed back, the following holds after the list." And CR 1: "Withdrawals join demand 3's list".
+-- handed back, the following holds after the list." And CR 1: "Withdrawals join demand 3's list"; CR 3: a desk is "made with a nap length d, 1 to 255" (of d only 1 ≤ d is needed).
 abbrev pub Demand3 : Type 0
-Demand3 = (n : ℕ) → 2 ≤ n → n ≤ mostProcesses → (calls : List Call) → Claim tables (freshTable n) emptyHistory calls
+Demand3 = (n d : ℕ) → 2 ≤ n → n ≤ mostProcesses → 1 ≤ d → (calls : List Call) → Claim tables (freshTable n d) emptyHistory calls

@@ -8,14 +8,14 @@ use Rattle.process.specs.Process.{freshProcess}
 use Rattle.rendezvous.specs.Table.{mostProcesses, process, withNext, freshHead, freshTable, hasOpenOffer}
 use Rattle.rendezvous.specs.Numbers.{Said, made, ticket, outcome, movers, refusal}
 use Rattle.rendezvous.specs.Run.{Call, Offer, tableAfter}
-use Rattle.rendezvous.specs.Commands.{New, Movers}
+use Rattle.rendezvous.specs.Commands.{Movers}
 use Rattle.history.specs.Types.{ℕ, _≡_, Bool, true, false, List, [], _∷_, _++_, some, none, replicate, Message, Action, Guard, Place, Process}
 use Rattle.history.specs.Types.{ProcessTable}
 use Rattle.history.specs.Book.{Moment, Joined, emptyHistory, _>>=_}
 use Rattle.history.specs.Machine.{bookAfterAll, madeByAll}
 use Rattle.history.specs.Tables.{tables}
 use Rattle.history.specs.Demand3.{Claim}
-use Rattle.history.specs.Cases.{Case, offers, steps, collects, receive, reading, sends, send, disabled, at, sessionCalls, session, sessionSays, case}
+use Rattle.history.specs.Cases.{Case, makes, offers, steps, collects, receive, reading, sends, send, disabled, at, sessionCalls, session, sessionSays, case}
 use Rattle.history.specs.Cases.{Hold}
 
 abbrev limit : ℕ → ℕ → Message
@@ -27,7 +27,7 @@ by-hand id place signal accepting own posted = record { place = place; signal = 
 
 -- a table by hand: the number of processes, the next ticket, and the first of its records; the others are fresh
 abbrev pub table : ℕ → ℕ → List Process → ProcessTable
-table n next records = record { head = withNext (freshHead n) next; processes = take mostProcesses (records ++ replicate mostProcesses freshProcess) }
+table n next records = record { head = withNext (freshHead n 1) next; processes = take mostProcesses (records ++ replicate mostProcesses freshProcess) }
 
 -- Two processes: 0 at a place and with a signal, two guards in its own list and none posted; 1 at I, with one guard posted.
 abbrev first : Place → Signal → ProcessTable
@@ -44,24 +44,24 @@ on t says = record { start = t; commands = Movers ∷ []; says = says ∷ [] }
 unfoldable pub further : List Case
 further =
     -- one and eight pass; a party not below n with nine guards gives 2
-    case (New 2 ∷ offers 0 (receive 1 ∷ []) ∷ offers 1 (replicate 8 (receive 0)) ∷ offers 2 (replicate 9 (receive 0)) ∷ []) (made ∷ ticket 0 ∷ ticket 1 ∷ refusal 2 ∷ [])
+    case (makes 2 ∷ offers 0 (receive 1 ∷ []) ∷ offers 1 (replicate 8 (receive 0)) ∷ offers 2 (replicate 9 (receive 0)) ∷ []) (made ∷ ticket 0 ∷ ticket 1 ∷ refusal 2 ∷ [])
     -- partner n−1 passes, n gives 4; r7f800000 passes
-    ∷ case (New 3 ∷ offers 0 (receive 3 ∷ []) ∷ offers 0 (receive 2 ∷ []) ∷ offers 1 (send 0 0x7f800000 ∷ []) ∷ []) (made ∷ refusal 4 ∷ ticket 0 ∷ ticket 1 ∷ [])
+    ∷ case (makes 3 ∷ offers 0 (receive 3 ∷ []) ∷ offers 0 (receive 2 ∷ []) ∷ offers 1 (send 0 0x7f800000 ∷ []) ∷ []) (made ∷ refusal 4 ∷ ticket 0 ∷ ticket 1 ∷ [])
     -- "4, then 5, guard by guard", and "Disabled guards are tested too": 5 before 6
-    ∷ case (New 2 ∷ offers 0 (send 0 0x7fc00000 ∷ []) ∷ offers 0 (send 1 0x7fc00000 ∷ receive 0 ∷ []) ∷ []) (made ∷ refusal 4 ∷ refusal 5 ∷ [])
-    ∷ case (New 2 ∷ offers 0 (record { enabled = false; partner = 1; kind = 0; action = Action.Send (reading 0x7fc00000) } ∷ []) ∷ []) (made ∷ refusal 5 ∷ [])
+    ∷ case (makes 2 ∷ offers 0 (send 0 0x7fc00000 ∷ []) ∷ offers 0 (send 1 0x7fc00000 ∷ receive 0 ∷ []) ∷ []) (made ∷ refusal 4 ∷ refusal 5 ∷ [])
+    ∷ case (makes 2 ∷ offers 0 (record { enabled = false; partner = 1; kind = 0; action = Action.Send (reading 0x7fc00000) } ∷ []) ∷ []) (made ∷ refusal 5 ∷ [])
     -- a NaN in either half of a limit gives 5
-    ∷ case (New 2 ∷ offers 0 (sends 1 (limit 0x40970a3d 0x7fc00000) ∷ []) ∷ offers 0 (sends 1 (limit 0x7fc00000 0x40970a3d) ∷ []) ∷ []) (made ∷ refusal 5 ∷ refusal 5 ∷ [])
+    ∷ case (makes 2 ∷ offers 0 (sends 1 (limit 0x40970a3d 0x7fc00000) ∷ []) ∷ offers 0 (sends 1 (limit 0x7fc00000 0x40970a3d) ∷ []) ∷ []) (made ∷ refusal 5 ∷ refusal 5 ∷ [])
     -- 11 before 12
     ∷ record { start = table 2 4294967295 (by-hand 0 Place.Entering Signal.Absent false (receive 1 ∷ []) [] ∷ freshProcess ∷ []); commands = offers 0 (receive 1 ∷ []) ∷ offers 1 (receive 0 ∷ []) ∷ []; says = refusal 11 ∷ refusal 12 ∷ [] }
     -- collecting at I and at W: 13
     ∷ case
-    (New 2 ∷ collects 0 ∷ offers 0 (receive 1 ∷ []) ∷ steps 0 ∷ steps 0 ∷ steps 0 ∷ steps 0 ∷ steps 0 ∷ collects 0 ∷ [])
+    (makes 2 ∷ collects 0 ∷ offers 0 (receive 1 ∷ []) ∷ steps 0 ∷ steps 0 ∷ steps 0 ∷ steps 0 ∷ steps 0 ∷ collects 0 ∷ [])
     (made ∷ refusal 13 ∷ ticket 0 ∷ at "A" (some 0) ∷ at "P" none ∷ at "O" none ∷ at "H" none ∷ at "W" none ∷ refusal 13 ∷ [])
     -- on a damaged table 7, whatever is called, and before all others
     ∷ record { start = first (Place.Scanning 2) Signal.Absent; commands = offers 0 (receive 1 ∷ []) ∷ offers 9 [] ∷ steps 0 ∷ steps 9 ∷ collects 0 ∷ Movers ∷ []; says = replicate 6 (refusal 7) }
     -- 7: n is outside 2 to 32
-    ∷ on (freshTable 1) (refusal 7) ∷ on (freshTable 2) (movers 0) ∷ on (freshTable 32) (movers 0) ∷ on (freshTable 33) (refusal 7)
+    ∷ on (freshTable 1 1) (refusal 7) ∷ on (freshTable 2 1) (movers 0) ∷ on (freshTable 32 1) (movers 0) ∷ on (freshTable 33 1) (refusal 7)
     -- 7: over eight guards in a list or posted list; a guard of either names its own party or one not below n
     ∷ on (lists (replicate 8 (receive 1)) (replicate 8 (receive 1))) (movers 0)
     ∷ on (lists (replicate 9 (receive 1)) []) (refusal 7) ∷ on (lists [] (replicate 9 (receive 1))) (refusal 7)
@@ -75,13 +75,13 @@ further =
     ∷ on (first (Place.Met 1 Message.Nothing) Signal.Absent) (movers 0) ∷ on (first (Place.Met 2 Message.Nothing) Signal.Absent) (refusal 7)
     -- Rules 1 and 8: process 0 starts at its first enabled guard, 1. It finds no match at T, for 2 receives as it does, and goes on to guard 2, not back to 1.
     ∷ case
-    (New 3 ∷ offers 2 (receive 0 ∷ []) ∷ Movers ∷ steps 2 ∷ steps 2 ∷ steps 2 ∷ steps 2 ∷ steps 2
+    (makes 3 ∷ offers 2 (receive 0 ∷ []) ∷ Movers ∷ steps 2 ∷ steps 2 ∷ steps 2 ∷ steps 2 ∷ steps 2
     ∷ offers 0 (disabled 1 ∷ receive 2 ∷ receive 1 ∷ []) ∷ steps 0 ∷ steps 0 ∷ steps 0 ∷ steps 0 ∷ [])
     (made ∷ ticket 0 ∷ movers 4 ∷ at "A" (some 0) ∷ at "P" none ∷ at "O" none ∷ at "H" none ∷ at "W" none
     ∷ ticket 1 ∷ at "A" (some 1) ∷ at "T" (some 1) ∷ at "A" (some 2) ∷ at "P" none ∷ [])
     -- Rules 7 and 9, where the guard at C sends: of two guards that match, process 0 is told the first, with the reading.
     ∷ case
-    (New 2 ∷ offers 0 (receive 1 ∷ receive 1 ∷ []) ∷ steps 0 ∷ steps 0 ∷ steps 0 ∷ steps 0 ∷ steps 0 ∷ steps 0
+    (makes 2 ∷ offers 0 (receive 1 ∷ receive 1 ∷ []) ∷ steps 0 ∷ steps 0 ∷ steps 0 ∷ steps 0 ∷ steps 0 ∷ steps 0
     ∷ offers 1 (send 0 0x40970a3d ∷ []) ∷ steps 1 ∷ steps 1 ∷ steps 1 ∷ steps 1 ∷ steps 0 ∷ collects 0 ∷ collects 1 ∷ [])
     (made ∷ ticket 0 ∷ at "A" (some 0) ∷ at "A" (some 1) ∷ at "P" none ∷ at "O" none ∷ at "H" none ∷ at "W" none
     ∷ ticket 1 ∷ at "A" (some 0) ∷ at "T" (some 0) ∷ at "C" (some 0) ∷ at "M" none ∷ at "M" none ∷ outcome 0 1 (reading 0x40970a3d) ∷ outcome 0 0 Message.Nothing ∷ [])
@@ -113,9 +113,11 @@ pub record Further : Type 0 where
   pub offer-leaves : OfferLeaves (receive 1 ∷ []) (disabled 1 ∷ send 1 0x3f800000 ∷ [])
   pub open-at-2 : hasOpenOffer (third 3) 2 ≡ true
   pub not-open-at-n : hasOpenOffer (third 2) 2 ≡ false
-  pub commits : madeByAll tables (freshTable 2) markedCalls ≡ marked
-  pub book-run : _>>=_ (bookAfterAll tables (freshTable 2) emptyHistory markedCalls) (λ b. some (b .run)) ≡ some marked
+  pub commits : madeByAll tables (freshTable 2 1) markedCalls ≡ marked
+  pub book-run : _>>=_ (bookAfterAll tables (freshTable 2 1) emptyHistory markedCalls) (λ b. some (b .run)) ≡ some marked
 
--- Demand 3 for the smallest and for the largest table.
+-- Demand 3 for the smallest and for the largest table, with the shortest and with the longest nap.
 abbrev pub Demand3AtEnds : Type 0
-Demand3AtEnds = (calls : List Call) → Claim tables (freshTable 2) emptyHistory calls × Claim tables (freshTable 32) emptyHistory calls
+Demand3AtEnds = (calls : List Call)
+    → Claim tables (freshTable 2 1) emptyHistory calls × Claim tables (freshTable 32 1) emptyHistory calls
+    × Claim tables (freshTable 2 255) emptyHistory calls × Claim tables (freshTable 32 255) emptyHistory calls

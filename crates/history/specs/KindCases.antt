@@ -5,12 +5,12 @@ use Rattle.alternative.specs.Guards.{ofKind}
 use Rattle.rendezvous.specs.Table.{freshTable}
 use Rattle.rendezvous.specs.Numbers.{Said, made, ticket, outcome, movers, refusal}
 use Rattle.rendezvous.specs.Run.{Call, Offer, Step, Collect}
-use Rattle.rendezvous.specs.Commands.{New, Do, Movers}
+use Rattle.rendezvous.specs.Commands.{Do, Movers}
 use Rattle.history.specs.Types.{ℕ, _≡_, List, [], _∷_, _++_, some, none, replicate, Message, Guard}
 use Rattle.history.specs.Book.{Moment, Joined, emptyHistory, _>>=_}
 use Rattle.history.specs.Machine.{bookAfterAll, madeByAll}
 use Rattle.history.specs.Tables.{tables}
-use Rattle.history.specs.Cases.{Case, Hold, case, receive, send, sends, disabled, at}
+use Rattle.history.specs.Cases.{Case, Hold, case, makes, receive, send, sends, disabled, at}
 
 abbrev wholes : ℕ → Message
 wholes n = Message.Whole (pos n)
@@ -35,13 +35,13 @@ pierSays =
 -- process 0 waits with a guard of one kind; process 1 offers it one of another, finds no match, and waits too: nothing can move
 abbrev apart : ℕ → ℕ → Case
 apart k l = case
-    (New 2 ∷ map Do (Offer 0 (ofKind k (receive 1) ∷ []) ∷ replicate 5 (Step 0) ++ Offer 1 (ofKind l (sends 0 (wholes 7)) ∷ []) ∷ replicate 6 (Step 1)) ++ Movers ∷ [])
+    (makes 2 ∷ map Do (Offer 0 (ofKind k (receive 1) ∷ []) ∷ replicate 5 (Step 0) ++ Offer 1 (ofKind l (sends 0 (wholes 7)) ∷ []) ∷ replicate 6 (Step 1)) ++ Movers ∷ [])
     (made ∷ ticket 0 ∷ at "A" (some 0) ∷ at "P" none ∷ at "O" none ∷ at "H" none ∷ at "W" none
     ∷ ticket 1 ∷ at "A" (some 0) ∷ at "T" (some 0) ∷ at "P" none ∷ at "O" none ∷ at "H" none ∷ at "W" none ∷ movers 0 ∷ [])
 
 unfoldable pub stories : List Case
 stories =
-    case (New 2 ∷ map Do pierCalls) (made ∷ pierSays)
+    case (makes 2 ∷ map Do pierCalls) (made ∷ pierSays)
     -- "equal": not nearly, nor in some of their bits
     ∷ apart 0 1
     ∷ apart 1 2
@@ -52,12 +52,12 @@ stories =
     ∷ apart 16 0
     -- a disabled guard of the right kind is passed over, and so is an enabled one of another
     ∷ case
-    (New 2 ∷ map Do (Offer 0 (ofKind 3 (disabled 1) ∷ ofKind 4 (receive 1) ∷ ofKind 3 (receive 1) ∷ []) ∷ replicate 6 (Step 0) ++ Offer 1 (ofKind 3 (sends 0 (wholes 7)) ∷ []) ∷ replicate 4 (Step 1) ++ Step 0 ∷ Collect 0 ∷ []))
+    (makes 2 ∷ map Do (Offer 0 (ofKind 3 (disabled 1) ∷ ofKind 4 (receive 1) ∷ ofKind 3 (receive 1) ∷ []) ∷ replicate 6 (Step 0) ++ Offer 1 (ofKind 3 (sends 0 (wholes 7)) ∷ []) ∷ replicate 4 (Step 1) ++ Step 0 ∷ Collect 0 ∷ []))
     (made ∷ ticket 0 ∷ at "A" (some 1) ∷ at "A" (some 2) ∷ at "P" none ∷ at "O" none ∷ at "H" none ∷ at "W" none
     ∷ ticket 1 ∷ at "A" (some 0) ∷ at "T" (some 0) ∷ at "C" (some 0) ∷ at "M" none ∷ at "M" none ∷ outcome 2 1 (wholes 7) ∷ [])
     -- no refusal looks at a kind: 3, 4, 5, 6, and an offer with a disabled guard of kind 255, which is taken
     ∷ case
-    (New 2 ∷ map Do (Offer 0 (replicate 9 (ofKind 255 (receive 1))) ∷ Offer 0 (ofKind 255 (receive 0) ∷ []) ∷ Offer 0 (ofKind 255 (send 1 0x7fc00000) ∷ []) ∷ Offer 0 (ofKind 255 (disabled 1) ∷ [])
+    (makes 2 ∷ map Do (Offer 0 (replicate 9 (ofKind 255 (receive 1))) ∷ Offer 0 (ofKind 255 (receive 0) ∷ []) ∷ Offer 0 (ofKind 255 (send 1 0x7fc00000) ∷ []) ∷ Offer 0 (ofKind 255 (disabled 1) ∷ [])
     ∷ Offer 0 (ofKind 255 (disabled 1) ∷ ofKind 254 (receive 1) ∷ []) ∷ Step 0 ∷ []))
     (made ∷ refusal 3 ∷ refusal 4 ∷ refusal 5 ∷ refusal 6 ∷ ticket 0 ∷ at "A" (some 1) ∷ [])
     ∷ []
@@ -68,5 +68,5 @@ pierRun = Joined (record { idP = 1; idQ = 0; p = 1; i = 0; q = 0; j = 1; message
 
 pub record KindCases : Type 0 where
   pub cases : Hold stories
-  pub made-run : madeByAll tables (freshTable 2) pierCalls ≡ pierRun
-  pub book-run : _>>=_ (bookAfterAll tables (freshTable 2) emptyHistory pierCalls) (λ b. some (b .run)) ≡ some pierRun
+  pub made-run : madeByAll tables (freshTable 2 1) pierCalls ≡ pierRun
+  pub book-run : _>>=_ (bookAfterAll tables (freshTable 2 1) emptyHistory pierCalls) (λ b. some (b .run)) ≡ some pierRun

@@ -21,4 +21,4 @@ OfOneKind b c says after = (r : Rendezvous) → after .run ≡ b .run ++ (Joined
     → (kind : ℕ) × (kindAt (b .opened (r .p)) (r .i) ≡ some kind) × (kindAt (b .opened (r .q)) (r .j) ≡ some kind)
 
 abbrev pub KindsNeverCross : Type 0
-KindsNeverCross = (n : ℕ) → 2 ≤ n → n ≤ mostProcesses → (calls : List Call) → EachCall tables OfOneKind (freshTable n) emptyHistory calls
+KindsNeverCross = (n d : ℕ) → 2 ≤ n → n ≤ mostProcesses → 1 ≤ d → (calls : List Call) → EachCall tables OfOneKind (freshTable n d) emptyHistory calls

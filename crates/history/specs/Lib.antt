@@ -9,4 +9,6 @@ pub mod Cases
 pub mod Further
 pub mod Withdrawals
 pub mod KindsNeverCross
+pub mod NapsLast
+pub mod NapCases
 pub mod KindCases

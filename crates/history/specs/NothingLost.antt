@@ -29,5 +29,5 @@ pub record NoneLost (t : ProcessTable) (b : History) : Type 0 where
   pub given : Quiescent t → (p : ℕ) (d : Due) → b .due p ≡ some d → saidTo t (Collect p) ≡ outcome (d .index) (d .partner) (d .message)
 
 abbrev pub NothingLost : Type 0
-NothingLost = (n : ℕ) → 2 ≤ n → n ≤ mostProcesses → (calls : List Call)
-    → (b : History) × (bookAfterAll tables (freshTable n) emptyHistory calls ≡ some b) × NoneLost (tableAfterAll (freshTable n) calls) b
+NothingLost = (n d : ℕ) → 2 ≤ n → n ≤ mostProcesses → 1 ≤ d → (calls : List Call)
+    → (b : History) × (bookAfterAll tables (freshTable n d) emptyHistory calls ≡ some b) × NoneLost (tableAfterAll (freshTable n d) calls) b

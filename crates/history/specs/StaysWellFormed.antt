@@ -5,4 +5,4 @@ use Rattle.rendezvous.specs.Run.{Call, tableAfterAll}
 use Rattle.history.specs.Types.{ℕ, _≤_, _≡_, true, List}
 
 abbrev pub StaysWellFormed : Type 0
-StaysWellFormed = (n : ℕ) → 2 ≤ n → n ≤ mostProcesses → (calls : List Call) → wellFormed (tableAfterAll (freshTable n) calls) ≡ true
+StaysWellFormed = (n d : ℕ) → 2 ≤ n → n ≤ mostProcesses → 1 ≤ d → (calls : List Call) → wellFormed (tableAfterAll (freshTable n d) calls) ≡ true

@@ -4,16 +4,16 @@ use Rattle.process.specs.declared.Signal.{Signal}
 use Rattle.rendezvous.specs.Table.{freshTable}
 use Rattle.rendezvous.specs.Numbers.{Said, made, ticket, outcome, withdrawn, tooLate, refusal}
 use Rattle.rendezvous.specs.Run.{Call, Offer, Step, Collect, Withdraw, tableAfter}
-use Rattle.rendezvous.specs.Commands.{Command, New, Do}
+use Rattle.rendezvous.specs.Commands.{Command, Do}
 use Rattle.history.specs.Types.{ℕ, _≡_, Bool, true, false, List, [], _∷_, _++_, some, none, replicate, Message, Place, ProcessTable}
 use Rattle.history.specs.Book.{Moment, Joined, Withdrew, emptyHistory, _>>=_}
 use Rattle.history.specs.Machine.{bookAfterAll, madeByAll}
 use Rattle.history.specs.Tables.{tables}
 use Rattle.history.specs.Demand3.{idsOf}
-use Rattle.history.specs.Cases.{Case, Hold, case, offers, steps, collects, receive, send, reading, at}
+use Rattle.history.specs.Cases.{Case, Hold, case, makes, offers, steps, collects, receive, send, reading, at}
 use Rattle.history.specs.Further.{by-hand, table}
 
-abbrev withdraws : ℕ → Command
+abbrev pub withdraws : ℕ → Command
 withdraws p = Do (Withdraw p)
 
 -- process 0 at a place, with wake count 0 where `accepting` is true; process 1 has a guard posted, for the kept index at C
@@ -37,12 +37,12 @@ everywhere =
     ++ says Place.Posting withdrawn withdrawn
     ++ says Place.Opening withdrawn withdrawn
     ++ says Place.Showing withdrawn tooLate
-    ++ says Place.Asleep withdrawn withdrawn
+    ++ says (Place.Asleep 0) withdrawn withdrawn
     ++ says Place.Waiting withdrawn tooLate
 
 -- process 0 has waited, and 1 is at T on it
 abbrev tried : List Command
-tried = New 2 ∷ offers 0 (receive 1 ∷ []) ∷ replicate 5 (steps 0) ++ offers 1 (send 0 0x40970a3d ∷ []) ∷ steps 1 ∷ steps 1 ∷ []
+tried = makes 2 ∷ offers 0 (receive 1 ∷ []) ∷ replicate 5 (steps 0) ++ offers 1 (send 0 0x40970a3d ∷ []) ∷ steps 1 ∷ steps 1 ∷ []
 
 abbrev triedSays : List Said
 triedSays = made ∷ ticket 0 ∷ at "A" (some 0) ∷ at "P" none ∷ at "O" none ∷ at "H" none ∷ at "W" none ∷ ticket 1 ∷ at "A" (some 0) ∷ at "T" (some 0) ∷ []
@@ -50,7 +50,7 @@ triedSays = made ∷ ticket 0 ∷ at "A" (some 0) ∷ at "P" none ∷ at "O" non
 unfoldable pub stories : List Case
 stories =
     -- "After 7 and 2, a party at I or M is turned away by 14.": 2 before 14, and 7 before both
-    case (New 2 ∷ withdraws 0 ∷ withdraws 2 ∷ []) (made ∷ refusal 14 ∷ refusal 2 ∷ [])
+    case (makes 2 ∷ withdraws 0 ∷ withdraws 2 ∷ []) (made ∷ refusal 14 ∷ refusal 2 ∷ [])
     ∷ record { start = placed (Place.Scanning 1) false; commands = withdraws 0 ∷ withdraws 1 ∷ withdraws 9 ∷ []; says = replicate 3 (refusal 7) }
     -- The slot closes before the commit: the partner passes on.
     ∷ case (tried ++ withdraws 0 ∷ steps 1 ∷ withdraws 0 ∷ []) (triedSays ++ withdrawn ∷ at "P" none ∷ refusal 14 ∷ [])
@@ -65,14 +65,14 @@ stories =
 abbrev odd : Place → Bool → ProcessTable
 odd place accepting =
     let signal = Signal.Present 0 (reading 0x40970a3d) in
-    table 2 8 (by-hand 7 place signal accepting (receive 1 ∷ []) (receive 1 ∷ receive 1 ∷ []) ∷ by-hand 6 Place.Asleep signal true (receive 0 ∷ []) (receive 0 ∷ receive 0 ∷ []) ∷ [])
+    table 2 8 (by-hand 7 place signal accepting (receive 1 ∷ []) (receive 1 ∷ receive 1 ∷ []) ∷ by-hand 6 (Place.Asleep 0) signal true (receive 0 ∷ []) (receive 0 ∷ receive 0 ∷ []) ∷ [])
 
 abbrev left : Bool → Place → ProcessTable
 left accepting place = tableAfter (odd place accepting) (Withdraw 0)
 
 -- "the wake count becomes 1, the party goes to I", and nothing else of the whole table changes: at E, A, T, P, O and S whatever the wake count was, at H and W where it was 0
 abbrev scans : List Place
-scans = Place.Entering ∷ Place.Scanning 0 ∷ Place.Trying 0 ∷ Place.Posting ∷ Place.Opening ∷ Place.Asleep ∷ []
+scans = Place.Entering ∷ Place.Scanning 0 ∷ Place.Trying 0 ∷ Place.Posting ∷ Place.Opening ∷ Place.Asleep 0 ∷ []
 
 abbrev shows : List Place
 shows = Place.Showing ∷ Place.Waiting ∷ []
@@ -99,6 +99,6 @@ pub record Withdrawals : Type 0 where
   pub leaves : Leaves true (scans ++ shows) × Leaves false scans
   pub stays : Stays true (Place.Committed 0 0 ∷ []) × Stays false (Place.Committed 0 0 ∷ shows)
   -- a moment of its own, by the tables and by the book, and the tickets of all moments
-  pub made-run : madeByAll tables (freshTable 2) again ≡ againRun
-  pub book-run : _>>=_ (bookAfterAll tables (freshTable 2) emptyHistory again) (λ b. some (b .run)) ≡ some againRun
+  pub made-run : madeByAll tables (freshTable 2 1) again ≡ againRun
+  pub book-run : _>>=_ (bookAfterAll tables (freshTable 2 1) emptyHistory again) (λ b. some (b .run)) ≡ some againRun
   pub tickets : idsOf againRun ≡ 0 ∷ 2 ∷ 1 ∷ []

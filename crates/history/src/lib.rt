@@ -7,13 +7,15 @@ ghost use Rattle.history.specs.Further.{Further, Demand3AtEnds};
 ghost use Rattle.history.specs.Withdrawals.{Withdrawals};
 ghost use Rattle.history.specs.KindsNeverCross.{KindsNeverCross};
 ghost use Rattle.history.specs.KindCases.{KindCases};
+ghost use Rattle.history.specs.NapsLast.{NapsLast};
+ghost use Rattle.history.specs.NapCases.{NapCases};
 
 // Carries demand 3, so that the verdict has a line for it: the claim about every list of calls from any fresh table.
 pub fn demand3()
     ensures { λ _. ⌜ Demand3 ⌝ }
 {}
 
-// Carries demand 3 for tables of 2 and of 32 processes: a claim for fewer sizes would not give it.
+// Carries demand 3 for tables of 2 and of 32 processes, with naps of 1 and of 255 steps: a claim that leaves out an end of either range would not give it.
 pub fn demand3_at_ends()
     ensures { λ _. ⌜ Demand3AtEnds ⌝ }
 {}
@@ -51,4 +53,15 @@ pub fn kinds_never_cross()
 // Carries the cases of kinds: in each of them the definitions say what document 02 says.
 pub fn kind_cases()
     ensures { λ _. ⌜ KindCases ⌝ }
+{}
+
+// Carries the claim that in every list of calls a nap lasts its length: d steps in a row are answered S, and the next is not, unless the
+// process withdraws.
+pub fn naps_last()
+    ensures { λ _. ⌜ NapsLast ⌝ }
+{}
+
+// Carries the cases of naps: in each of them the definitions say what document 02 says.
+pub fn nap_cases()
+    ensures { λ _. ⌜ NapCases ⌝ }
 {}

@@ -69,7 +69,7 @@ fn offered(table: ProcessTable, p: u8, count: usize) -> ProcessTable
 }
 
 fn main() {
-    let made = ProcessTable::create(4);
+    let made = ProcessTable::create(4, 1);
     let fresh = made.table;
     let one = offered(offered(fresh, 0, 0), 0, 1);
     offered(offered(one, 1, 8), 2, 9);

@@ -93,7 +93,7 @@ pub fn start(plan: u8, n: u8, load: u8) -> ProcessTable {
     let mut processes = [other; MOST_PROCESSES as usize];
     processes[0] = starter(plan, 0);
     processes[1] = starter(plan, 1);
-    let mut head = fresh_head(n);
+    let mut head = fresh_head(n, 1);
     let next = TransactionId(MOST_PROCESSES as u32);
     head.next = next;
     ProcessTable {

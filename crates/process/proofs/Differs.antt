@@ -1,5 +1,5 @@
 -- A rule that changes anything changes the place of the process that steps.
-use Prim.Native.Nat.{ℕ, suc, _≤_}
+use Prim.Native.Nat.{ℕ, suc, _+_, _≤_}
 use Prim.Native.Char.{code}
 use mathlib.Core.Path.{_≡_, refl, sym, ap}
 use mathlib.Core.Bool.{Bool, true, false, cond}
@@ -10,7 +10,7 @@ use lib.Dec.{ltb}
 use Rattle.alternative.specs.Guards.{firstFrom, keptMatch, nextEnabled}
 use Rattle.process.specs.Types.{Guard, Found, Signal, Place, State, Process}
 use Rattle.process.specs.Process.{letterOf, stateOf, ownList, postedList, ownGuard}
-use Rattle.process.specs.Rules.{Effect, Neither, Own, Both, scanAt, scanFrom, scan, try, handOver, absorb, ruleAt, rule}
+use Rattle.process.specs.Rules.{Effect, Neither, Own, Both, scanAt, scanFrom, sleepAt, scan, try, handOver, absorb, ruleAt, rule}
 
 abbrev pub Differs : Place → Effect → Type 0
 Differs place Neither = Unit {0}
@@ -41,6 +41,10 @@ after-differs x i = from-differs x (suc i) (Place.Scanning i) (λ j h e. let z :
 other-differs : (x : Process) (k : ℕ) (place : Place) → (letterOf place ≡ code "A" → ⊥) → (letterOf place ≡ code "P" → ⊥) → Differs place (scanFrom x k)
 other-differs x k place h g = from-differs x k place (λ i _ e. h (sym (ap letterOf e))) (λ e. g (sym (ap letterOf e)))
 
+sleep-differs : (x : Process) (s : ℕ) (early : Bool) → Differs (Place.Asleep s) (sleepAt x s early)
+sleep-differs x s true = λ e. let z : s + 1 ≡ s = cc in omega arith
+sleep-differs x s false = other-differs x 0 (Place.Asleep s) (omega arith) (omega arith)
+
 scan-differs : (x : Process) (i : ℕ) (s : State) (older : Bool) → Differs (Place.Scanning i) (scan x i s older)
 scan-differs x i State.Running older = after-differs x i
 scan-differs x i State.Sleeping older = after-differs x i
@@ -58,20 +62,20 @@ absorb-differs : (x : Process) (s : Signal) → Differs Place.Waiting (absorb x 
 absorb-differs x (Signal.Present j m) = λ e. let z : code "M" ≡ code "W" = ap letterOf e in omega arith
 absorb-differs x Signal.Absent = tt
 
-at-differs : (p : ℕ) (x : Process) (q : ℕ) (y : Process) (place : Place) → Differs place (ruleAt p x q y place)
+at-differs : (d p : ℕ) (x : Process) (q : ℕ) (y : Process) (place : Place) → Differs place (ruleAt d p x q y place)
 unfolding handOver
-at-differs p x q y Place.Entering = other-differs x 0 Place.Entering (omega arith) (omega arith)
-at-differs p x q y Place.Asleep = other-differs x 0 Place.Asleep (omega arith) (omega arith)
-at-differs p x q y (Place.Scanning i) = scan-differs x i (stateOf (y .place)) (ltb (y .transaction .0) (x .transaction .0))
-at-differs p x q y (Place.Trying i) = try-differs x i y (y .accepting) (keptMatch p (ownGuard x i) q (postedList y))
-at-differs p x q y (Place.Committed i j) = λ e. let z : code "M" ≡ code "C" = ap letterOf e in omega arith
-at-differs p x q y Place.Posting = λ e. let z : code "O" ≡ code "P" = ap letterOf e in omega arith
-at-differs p x q y Place.Opening = λ e. let z : code "H" ≡ code "O" = ap letterOf e in omega arith
-at-differs p x q y Place.Showing = λ e. let z : code "W" ≡ code "H" = ap letterOf e in omega arith
-at-differs p x q y Place.Waiting = absorb-differs x (x .signal)
-at-differs p x q y Place.Idle = tt
-at-differs p x q y (Place.Met i m) = tt
+at-differs d p x q y Place.Entering = other-differs x 0 Place.Entering (omega arith) (omega arith)
+at-differs d p x q y (Place.Asleep s) = sleep-differs x s (ltb (s + 1) d)
+at-differs d p x q y (Place.Scanning i) = scan-differs x i (stateOf (y .place)) (ltb (y .transaction .0) (x .transaction .0))
+at-differs d p x q y (Place.Trying i) = try-differs x i y (y .accepting) (keptMatch p (ownGuard x i) q (postedList y))
+at-differs d p x q y (Place.Committed i j) = λ e. let z : code "M" ≡ code "C" = ap letterOf e in omega arith
+at-differs d p x q y Place.Posting = λ e. let z : code "O" ≡ code "P" = ap letterOf e in omega arith
+at-differs d p x q y Place.Opening = λ e. let z : code "H" ≡ code "O" = ap letterOf e in omega arith
+at-differs d p x q y Place.Showing = λ e. let z : code "W" ≡ code "H" = ap letterOf e in omega arith
+at-differs d p x q y Place.Waiting = absorb-differs x (x .signal)
+at-differs d p x q y Place.Idle = tt
+at-differs d p x q y (Place.Met i m) = tt
 
-pub rule-differs : (p : ℕ) (x : Process) (q : ℕ) (y : Process) → Differs (x .place) (rule p x q y)
+pub rule-differs : (d p : ℕ) (x : Process) (q : ℕ) (y : Process) → Differs (x .place) (rule d p x q y)
 unfolding rule
-rule-differs p x q y = at-differs p x q y (x .place)
+rule-differs d p x q y = at-differs d p x q y (x .place)

@@ -8,9 +8,9 @@ use Rattle.alternative.specs.Guards.{keptMatch}
 use Rattle.process.specs.Types.{Guard, Found, Signal, Place, Process}
 use Rattle.process.specs.Rules.{Both, atPlace, withAccepting, scanFrom, try, absorb, ruleAt, rule}
 
-pub rule-at : (p : ℕ) (x : Process) (q : ℕ) (y : Process) (place : Place) → x .place ≡ place → rule p x q y ≡ ruleAt p x q y place
+pub rule-at : (d p : ℕ) (x : Process) (q : ℕ) (y : Process) (place : Place) → x .place ≡ place → rule d p x q y ≡ ruleAt d p x q y place
 unfolding rule
-rule-at p x q y place e = ap (ruleAt p x q y) e
+rule-at d p x q y place e = ap (ruleAt d p x q y) e
 
 pub absorb-at : (x : Process) (signal : Signal) → x .signal ≡ signal → absorb x (x .signal) ≡ absorb x signal
 absorb-at x signal e = ap (absorb x) e

@@ -1,4 +1,4 @@
--- To be believed. Document 01, "What turns a call away", refusal 7: what it asks of each record. The quoted conditions are those that fail.
+-- To be believed. Document 01, "What turns a call away", refusal 7, and CR 3 of document 02: what it asks of each record. The quoted conditions are those that fail.
 use Rattle.alternative.specs.Guards.{mostGuards}
 use Rattle.process.specs.Process.{carried}
 use Rattle.process.specs.Types.{ℕ, Bool, true, not, _&&_, List, [], _∷_, take, eqb, ltb, leb, Guard, Signal, Place, Process}
@@ -22,14 +22,14 @@ signalFits count Signal.Absent = true
 signalFits count (Signal.Present j m) = ltb j count
 
 -- not "the index in A, T, C, .. or an outcome has no guard in that party's own list (not the posted one), or a kept index none in the partner's posted list", a list
--- of partnerPosted guards
-abbrev pub placeFits : ℕ → ℕ → Place → Bool
-placeFits count partnerPosted place = carried true (λ i. ltb i count) (λ i j. ltb i count && ltb j partnerPosted) (λ i m. ltb i count) place
+-- of partnerPosted guards; and, by CR 3, not "a sleeper that has made d or more steps at S"
+abbrev pub placeFits : ℕ → ℕ → ℕ → Place → Bool
+placeFits d count partnerPosted place = carried true (λ i. ltb i count) (λ i j. ltb i count && ltb j partnerPosted) (λ s. ltb s d) (λ i m. ltb i count) place
 
--- process p with record x; the process that its guard names at C has posted partnerPosted guards
-unfoldable pub processFits : ℕ → ℕ → Process → ℕ → Bool
-processFits n p x partnerPosted =
+-- process p with record x, in a table of n with nap length d; the process that its guard names at C has posted partnerPosted guards
+unfoldable pub processFits : ℕ → ℕ → ℕ → Process → ℕ → Bool
+processFits n d p x partnerPosted =
     listFits n p (x .count) (x .guards)
     && (listFits n p (x .altcount) (x .altlist)
     && (signalFits (x .count) (x .signal)
-    && placeFits (x .count) partnerPosted (x .place)))
+    && placeFits d (x .count) partnerPosted (x .place)))

@@ -19,14 +19,14 @@ told place = record { letter = letterOf place; index = indexOf place; word = sta
 abbrev line : Char → Option ℕ → State → Bool → Bool → Told
 line letter index word openAt0 openAt1 = record { letter = code letter; index = index; word = word; openAt0 = openAt0; openAt1 = openAt1 }
 
--- the eleven places, in the order of document 01's table; what A, T, C and M carry is any
-abbrev places : ℕ → ℕ → Message → List Place
-places i j m = Place.Idle ∷ Place.Entering ∷ Place.Met i m ∷ Place.Scanning i ∷ Place.Trying i ∷ Place.Committed i j ∷ Place.Posting ∷ Place.Opening ∷ Place.Showing ∷ Place.Asleep ∷ Place.Waiting ∷ []
+-- the eleven places, in the order of document 01's table; what A, T, C, S and M carry is any
+abbrev places : ℕ → ℕ → ℕ → Message → List Place
+places i j s m = Place.Idle ∷ Place.Entering ∷ Place.Met i m ∷ Place.Scanning i ∷ Place.Trying i ∷ Place.Committed i j ∷ Place.Posting ∷ Place.Opening ∷ Place.Showing ∷ Place.Asleep s ∷ Place.Waiting ∷ []
 
 abbrev pub PlaceTable : Type 0
 PlaceTable =
-    (i j : ℕ) (m : Message)
-    → map told (places i j m)
+    (i j s : ℕ) (m : Message)
+    → map told (places i j s m)
     ≡ line "I" none State.Running false false
     ∷ line "E" none State.Running true true
     ∷ line "M" none State.Running false false

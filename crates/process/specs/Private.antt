@@ -30,4 +30,4 @@ changesAt x y (Place.Committed i j) = true
 changesAt x y Place.Posting = true
 changesAt x y Place.Opening = true
 changesAt x y Place.Showing = true
-changesAt x y Place.Asleep = true
+changesAt x y (Place.Asleep s) = true

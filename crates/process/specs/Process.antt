@@ -1,4 +1,4 @@
--- To be believed. Document 01, "The desk and its tasks": the words, a record and its lists, a fresh record; and from "Calls": an open offer.
+-- To be believed. Document 01, "The desk and its tasks", and what CR 3 of document 02 lets S carry: the words, a record and its lists, a fresh record; and from "Calls": an open offer.
 use Prim.Native.String.{[] as end, _∷_ as _then_}
 use Rattle.alternative.specs.Guards.{mostGuards, blank}
 use Rattle.process.specs.Types.{ℕ, code, String, Bool, false, _&&_, _||_, eqb, List, [], Option, some, none, getD, take, replicate, Message, Guard}
@@ -15,7 +15,7 @@ letterOf (Place.Committed i j) = code "C"
 letterOf Place.Posting = code "P"
 letterOf Place.Opening = code "O"
 letterOf Place.Showing = code "H"
-letterOf Place.Asleep = code "S"
+letterOf (Place.Asleep s) = code "S"
 letterOf Place.Waiting = code "W"
 
 -- at one of the places that have these letters
@@ -40,33 +40,34 @@ stateOf (Place.Committed i j) = State.Alt
 stateOf Place.Posting = State.Alt
 stateOf Place.Opening = State.Alt
 stateOf Place.Showing = State.Alt
-stateOf Place.Asleep = State.Sleeping
+stateOf (Place.Asleep s) = State.Sleeping
 stateOf Place.Waiting = State.Waiting
 
--- What a place carries: at A and T the index of a guard, at C that and the kept index, at M "an outcome (a guard index with a message)", at the others nothing.
-abbrev pub carried {ℓ} : {A : Type ℓ} → A → (ℕ → A) → (ℕ → ℕ → A) → (ℕ → Message → A) → Place → A
-carried other index kept outcome (Place.Scanning i) = index i
-carried other index kept outcome (Place.Trying i) = index i
-carried other index kept outcome (Place.Committed i j) = kept i j
-carried other index kept outcome (Place.Met i m) = outcome i m
-carried other index kept outcome Place.Idle = other
-carried other index kept outcome Place.Entering = other
-carried other index kept outcome Place.Posting = other
-carried other index kept outcome Place.Opening = other
-carried other index kept outcome Place.Showing = other
-carried other index kept outcome Place.Asleep = other
-carried other index kept outcome Place.Waiting = other
+-- What a place carries: at A and T the index of a guard, at C that and the kept index, at S how many own steps were made there (CR 3 of document 02), at M "an outcome (a guard index with a
+-- message)", at the others nothing.
+abbrev pub carried {ℓ} : {A : Type ℓ} → A → (ℕ → A) → (ℕ → ℕ → A) → (ℕ → A) → (ℕ → Message → A) → Place → A
+carried other index kept steps outcome (Place.Scanning i) = index i
+carried other index kept steps outcome (Place.Trying i) = index i
+carried other index kept steps outcome (Place.Committed i j) = kept i j
+carried other index kept steps outcome (Place.Asleep s) = steps s
+carried other index kept steps outcome (Place.Met i m) = outcome i m
+carried other index kept steps outcome Place.Idle = other
+carried other index kept steps outcome Place.Entering = other
+carried other index kept steps outcome Place.Posting = other
+carried other index kept steps outcome Place.Opening = other
+carried other index kept steps outcome Place.Showing = other
+carried other index kept steps outcome Place.Waiting = other
 
 -- "A, T and C carry the index of a guard."
 abbrev pub indexOf : Place → Option ℕ
-indexOf place = carried none some (λ i j. some i) (λ i m. none) place
+indexOf place = carried none some (λ i j. some i) (λ s. none) (λ i m. none) place
 
 -- C alone, and M alone
 abbrev pub ifCommitted {ℓ} : {A : Type ℓ} → A → (ℕ → ℕ → A) → Place → A
-ifCommitted other committed place = carried other (λ i. other) committed (λ i m. other) place
+ifCommitted other committed place = carried other (λ i. other) committed (λ s. other) (λ i m. other) place
 
 abbrev pub ifMet {ℓ} : {A : Type ℓ} → A → (ℕ → Message → A) → Place → A
-ifMet other met place = carried other (λ i. other) (λ i j. other) met place
+ifMet other met place = carried other (λ i. other) (λ i j. other) (λ s. other) met place
 
 -- a process's own list and its posted list, and guard i of each
 abbrev pub ownList : Process → List Guard

@@ -1,7 +1,7 @@
--- To be believed. Document 01, "The fifteen step rules".
+-- To be believed. Document 01, "The fifteen step rules", with rule 2 as CR 3 of document 02 has it.
 use Rattle.alternative.specs.Guards.{keptMatch, nextEnabled}
 use Rattle.alternative.specs.Exchange.{sentBy, receivedBy}
-use Rattle.process.specs.Types.{ℕ, suc, Bool, true, false, Option, some, none, ltb, Found, Signal, Place, State, Process}
+use Rattle.process.specs.Types.{ℕ, suc, _+_, Bool, true, false, Option, some, none, ltb, Found, Signal, Place, State, Process}
 use Rattle.process.specs.Process.{stateOf, indexOf, ownList, postedList, ownGuard, postedGuard}
 
 -- What a rule changes: neither record, that of the process that steps, or both, its own and its partner's.
@@ -34,12 +34,21 @@ scanAt Found.Missing = Place.Posting
 unfoldable pub scanFrom : Process → ℕ → Effect
 scanFrom x k = Own (atPlace x (scanAt (nextEnabled (ownList x) k)))
 
+-- CR 3, rule 2, at S after s own steps there: "a sleeper leaves S at its d-th own step there", by document 01's rule 2, "the same as rule 1, with the same ticket". This is step s + 1;
+-- "Its earlier steps count as changes": one before the d-th adds 1 to s.
+abbrev pub sleepAt : Process → ℕ → Bool → Effect
+sleepAt x s true = Own (atPlace x (Place.Asleep (s + 1)))
+sleepAt x s false = scanFrom x 0
+
+abbrev pub sleep : ℕ → Process → ℕ → Effect
+sleep d x s = sleepAt x s (ltb (s + 1) d)
+
 -- rules 3 to 6, at A at guard i: by the partner's word, and whether its ticket is smaller
 abbrev pub scan : Process → ℕ → State → Bool → Effect
 scan x i State.Running older = scanFrom x (suc i)
 scan x i State.Sleeping older = scanFrom x (suc i)
 scan x i State.Waiting older = Own (atPlace x (Place.Trying i))
-scan x i State.Alt true = Own (atPlace x Place.Asleep)
+scan x i State.Alt true = Own (atPlace x (Place.Asleep 0))
 scan x i State.Alt false = Neither
 
 -- rules 7 and 8, at T at guard i: by the partner's wake count, and what the search in its posted list finds
@@ -61,29 +70,29 @@ abbrev pub absorb : Process → Signal → Effect
 absorb x (Signal.Present j m) = Own (atPlace (withSignal x Signal.Absent) (Place.Met j m))
 absorb x Signal.Absent = Neither
 
--- The rules, by the place of process p with record x; the guard at A, T or C names process q with record y.
-abbrev pub ruleAt : ℕ → Process → ℕ → Process → Place → Effect
--- rules 1 and 2, and 2 "with the same ticket"
-ruleAt p x q y Place.Entering = scanFrom x 0
-ruleAt p x q y Place.Asleep = scanFrom x 0
+-- The rules, by the place of process p with record x, in a table with nap length d; the guard at A, T or C names process q with record y.
+abbrev pub ruleAt : ℕ → ℕ → Process → ℕ → Process → Place → Effect
+-- rules 1 and 2
+ruleAt d p x q y Place.Entering = scanFrom x 0
+ruleAt d p x q y (Place.Asleep s) = sleep d x s
 -- rules 3 to 6
-ruleAt p x q y (Place.Scanning i) = scan x i (stateOf (y .place)) (ltb (y .transaction .0) (x .transaction .0))
+ruleAt d p x q y (Place.Scanning i) = scan x i (stateOf (y .place)) (ltb (y .transaction .0) (x .transaction .0))
 -- rules 7 and 8
-ruleAt p x q y (Place.Trying i) = try x i y (y .accepting) (keptMatch p (ownGuard x i) q (postedList y))
+ruleAt d p x q y (Place.Trying i) = try x i y (y .accepting) (keptMatch p (ownGuard x i) q (postedList y))
 -- rule 9
-ruleAt p x q y (Place.Committed i j) = handOver x i j y
+ruleAt d p x q y (Place.Committed i j) = handOver x i j y
 -- rules 10 to 12
-ruleAt p x q y Place.Posting = Own (atPlace (withOwnPosted x) Place.Opening)
-ruleAt p x q y Place.Opening = Own (atPlace (withAccepting x true) Place.Showing)
-ruleAt p x q y Place.Showing = Own (atPlace x Place.Waiting)
+ruleAt d p x q y Place.Posting = Own (atPlace (withOwnPosted x) Place.Opening)
+ruleAt d p x q y Place.Opening = Own (atPlace (withAccepting x true) Place.Showing)
+ruleAt d p x q y Place.Showing = Own (atPlace x Place.Waiting)
 -- rules 13 and 14
-ruleAt p x q y Place.Waiting = absorb x (x .signal)
+ruleAt d p x q y Place.Waiting = absorb x (x .signal)
 -- rule 15
-ruleAt p x q y Place.Idle = Neither
-ruleAt p x q y (Place.Met i m) = Neither
+ruleAt d p x q y Place.Idle = Neither
+ruleAt d p x q y (Place.Met i m) = Neither
 
-unfoldable pub rule : ℕ → Process → ℕ → Process → Effect
-rule p x q y = ruleAt p x q y (x .place)
+unfoldable pub rule : ℕ → ℕ → Process → ℕ → Process → Effect
+rule d p x q y = ruleAt d p x q y (x .place)
 
 -- the process that the guard at A, T or C names; at other places no rule reads it
 abbrev pub namedBy : Process → Option ℕ → ℕ

@@ -1,4 +1,4 @@
-// Whether a record fits into a table of n processes, whatever it holds.
+// Whether a record fits into a table of n processes with naps of `nap` own steps, whatever it holds.
 use crate::Place;
 use crate::Process;
 use crate::Signal;
@@ -39,26 +39,26 @@ fn signal_fits(count: u8, signal: Signal) -> bool
     }
 }
 
-fn place_fits(count: u8, altcount: u8, place: Place) -> bool
-    ensures { λ r. ⌜ r ≡ placeFits count altcount place ⌝ }
+fn place_fits(nap: u8, count: u8, altcount: u8, place: Place) -> bool
+    ensures { λ r. ⌜ r ≡ placeFits nap count altcount place ⌝ }
 {
     match place {
         Place::Scanning(i) => i < count,
         Place::Trying(i) => i < count,
         Place::Committed(i, j) => (i < count) & (j < altcount),
+        Place::Asleep(steps) => steps < nap,
         Place::Met(i, _) => i < count,
         Place::Idle => true,
         Place::Entering => true,
         Place::Posting => true,
         Place::Opening => true,
         Place::Showing => true,
-        Place::Asleep => true,
         Place::Waiting => true,
     }
 }
 
-pub fn process_fits(n: u8, p: u8, x: Process, altcount: u8) -> bool
-    ensures { λ r. ⌜ r ≡ processFits n p x altcount ⌝ }
+pub fn process_fits(n: u8, nap: u8, p: u8, x: Process, altcount: u8) -> bool
+    ensures { λ r. ⌜ r ≡ processFits n nap p x altcount ⌝ }
 {
     let guards = x.guards;
     let altlist = x.altlist;
@@ -66,5 +66,5 @@ pub fn process_fits(n: u8, p: u8, x: Process, altcount: u8) -> bool
     let place = x.place;
     list_fits(n, p, x.count, guards)
         & (list_fits(n, p, x.altcount, altlist)
-            & (signal_fits(x.count, signal) & place_fits(x.count, altcount, place)))
+            & (signal_fits(x.count, signal) & place_fits(nap, x.count, altcount, place)))
 }

@@ -2,6 +2,7 @@
 use alternative::Guard;
 use alternative::Message;
 ghost use Rattle.process.specs.Places.{PlaceTable};
+ghost use Rattle.process.specs.Naps.{OldRule2};
 
 mod fits;
 mod moving;
@@ -26,7 +27,8 @@ pub enum Signal {
 }
 
 // Document 01's place, a word for each letter: I E A T C P O H S W M. A guard's index goes with A, T and C; with C also the kept
-// index of the partner's guard; with M the outcome, a guard index and a message.
+// index of the partner's guard; with S the own steps made there (document 02, request 3); with M the outcome, a guard index and a
+// message.
 pub enum Place {
     Idle,
     Entering,
@@ -36,7 +38,7 @@ pub enum Place {
     Posting,
     Opening,
     Showing,
-    Asleep,
+    Asleep(u8),
     Waiting,
     Met(u8, Message),
 }
@@ -76,4 +78,9 @@ pub struct Change {
 // open.
 pub fn place_table()
     ensures { λ _. ⌜ PlaceTable ⌝ }
+{}
+
+// Carries the claim that a nap of one step is document 01's rule 2, and that no other rule reads the length of a nap.
+pub fn old_rule_2()
+    ensures { λ _. ⌜ OldRule2 ⌝ }
 {}

@@ -32,7 +32,7 @@ fn is_present(signal: Signal) -> bool
 
 // Whether a rule changes anything for a process with record x and partner y: every rule but 6, 14 and 15 does.
 pub fn would_change(x: Process, y: Process) -> bool
-    ensures { λ r. ⌜ ((p q : ℕ) → r ≡ changes (rule p x q y)) ⌝ }
+    ensures { λ r. ⌜ ((d p q : ℕ) → r ≡ changes (rule d p x q y)) ⌝ }
 {
     let place = x.place;
     let signal = x.signal;
@@ -47,6 +47,6 @@ pub fn would_change(x: Process, y: Process) -> bool
         Place::Posting => true,
         Place::Opening => true,
         Place::Showing => true,
-        Place::Asleep => true,
+        Place::Asleep(_) => true,
     }
 }

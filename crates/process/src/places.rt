@@ -21,7 +21,7 @@ impl Place {
             Place::Posting => State::Alt,
             Place::Opening => State::Alt,
             Place::Showing => State::Alt,
-            Place::Asleep => State::Sleeping,
+            Place::Asleep(_) => State::Sleeping,
             Place::Waiting => State::Waiting,
         }
     }
@@ -40,7 +40,7 @@ impl Place {
             Place::Posting => b'P',
             Place::Opening => b'O',
             Place::Showing => b'H',
-            Place::Asleep => b'S',
+            Place::Asleep(_) => b'S',
             Place::Waiting => b'W',
         }
     }
@@ -58,7 +58,7 @@ impl Place {
             Place::Posting => Found::Missing,
             Place::Opening => Found::Missing,
             Place::Showing => Found::Missing,
-            Place::Asleep => Found::Missing,
+            Place::Asleep(_) => Found::Missing,
             Place::Waiting => Found::Missing,
             Place::Met(_, _) => Found::Missing,
         }
@@ -84,7 +84,7 @@ impl Place {
             Place::Posting => Signal::Absent,
             Place::Opening => Signal::Absent,
             Place::Showing => Signal::Absent,
-            Place::Asleep => Signal::Absent,
+            Place::Asleep(_) => Signal::Absent,
             Place::Waiting => Signal::Absent,
         }
     }

@@ -61,7 +61,7 @@ impl Process {
             Place::Posting => 0,
             Place::Opening => 0,
             Place::Showing => 0,
-            Place::Asleep => 0,
+            Place::Asleep(_) => 0,
             Place::Waiting => 0,
             Place::Met(_, _) => 0,
         }
@@ -83,7 +83,7 @@ impl Process {
             Place::Posting => 0,
             Place::Opening => 0,
             Place::Showing => 0,
-            Place::Asleep => 0,
+            Place::Asleep(_) => 0,
             Place::Waiting => 0,
             Place::Met(_, _) => 0,
         }

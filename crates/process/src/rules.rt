@@ -15,7 +15,7 @@ ghost use mathlib.Core.Bool.{true};
 ghost use lib.Dec.{ltb};
 ghost use Rattle.alternative.specs.Guards.{keptMatch};
 ghost use Rattle.process.specs.Process.{stateOf, postedList, ownGuard};
-ghost use Rattle.process.specs.Rules.{Neither, Own, atPlace, withAccepting, withOwnPosted, scanFrom, scan, try, handOver, absorb, rule};
+ghost use Rattle.process.specs.Rules.{Neither, Own, atPlace, withAccepting, withOwnPosted, scanFrom, sleep, scan, try, handOver, absorb, rule};
 ghost use Rattle.process.specs.InCode.{changeOf};
 
 // Nothing changes.
@@ -57,6 +57,17 @@ fn scan_from(x: Process, y: Process, k: usize) -> Change
     }
 }
 
+// Rule 2, at S after `steps` own steps there: it is left at the nap-th, and those before that are counted.
+fn sleep(nap: u8, x: Process, y: Process, steps: u8) -> Change
+    ensures { λ r. ⌜ r ≡ changeOf x y (sleep nap x steps) ⌝ }
+{
+    if (steps as usize) + 1 < nap as usize {
+        go(x.at_place(Place::Asleep(steps + 1)), y)
+    } else {
+        scan_from(x, y, 0)
+    }
+}
+
 // Rules 3 to 6.
 fn scan(x: Process, y: Process, i: u8) -> Change
     ensures { λ r. ⌜ r ≡ changeOf x y (scan x i (stateOf (y .place)) (ltb (y .transaction .0) (x .transaction .0))) ⌝ }
@@ -68,7 +79,7 @@ fn scan(x: Process, y: Process, i: u8) -> Change
         State::Waiting => go(x.at_place(Place::Trying(i)), y),
         State::Alt => {
             if y.transaction.0 < x.transaction.0 {
-                go(x.at_place(Place::Asleep), y)
+                go(x.at_place(Place::Asleep(0)), y)
             } else {
                 stay(x, y)
             }
@@ -172,14 +183,14 @@ fn absorb(x: Process, y: Process) -> Change
     }
 }
 
-// All fifteen, for process p with record x; q with record y is its partner at A, T and C.
-pub fn rule(p: u8, x: Process, q: u8, y: Process) -> Change
-    ensures { λ r. ⌜ r ≡ changeOf x y (rule p x q y) ⌝ }
+// All fifteen, for process p with record x, in a table with naps of `nap` own steps; q with record y is its partner at A, T and C.
+pub fn rule(nap: u8, p: u8, x: Process, q: u8, y: Process) -> Change
+    ensures { λ r. ⌜ r ≡ changeOf x y (rule nap p x q y) ⌝ }
 {
     let place = x.place;
     match place {
         Place::Entering => scan_from(x, y, 0),
-        Place::Asleep => scan_from(x, y, 0),
+        Place::Asleep(steps) => sleep(nap, x, y, steps),
         Place::Scanning(i) => scan(x, y, i),
         Place::Trying(i) => try_guard(p, x, q, y, i),
         Place::Committed(i, j) => hand_over(x, y, i, j),

@@ -55,7 +55,7 @@ module _ (t : ProcessTable) (formed : wellFormed t ≡ true) (p : ℕ) where
 
   pub step-other : p < t .head .n → changes (effectOn t p) ≡ true → step t p .table ≡ t → ⊥
   unfolding stepped effectOn
-  step-other below c = rw (taken below) (changed t p _ (effectOn t p) (there (ltb p (length (t .processes))) refl) (rule-differs p (process t p) _ _) c)
+  step-other below c = rw (taken below) (changed t p _ (effectOn t p) (there (ltb p (length (t .processes))) refl) (rule-differs (t .head .nap) p (process t p) _ _) c)
     where
       there : (b : Bool) → ltb p (length (t .processes)) ≡ b → p < length (t .processes)
       there true e = ltb-true p (length (t .processes)) e

@@ -49,7 +49,7 @@ module _ (t : ProcessTable) (p : ℕ) where
   unfolding done
   collected-done q place =
       let refused = nothing-done t p q (Answer.Refused Refusal.NotMet) in
-      both-carried (λ s r. done t p q (collectedAct (t .head) (process t p) s) ≡ r) _ _ _ _ _ _ _ _ place refused (λ i e. refused) (λ i j e. refused) (λ i m e. refl)
+      both-carried (λ s r. done t p q (collectedAct (t .head) (process t p) s) ≡ r) _ _ _ _ _ _ _ _ _ _ place refused (λ i e. refused) (λ i j e. refused) (λ s e. refused) (λ i m e. refl)
 
   withdrawn-done : (q : ℕ) (first : Bool) → let x = process t p in done t p q (withdrawnOrLateAct (t .head) x first) ≡ withdrawnOrLate t p x first
   unfolding done
@@ -60,7 +60,7 @@ pub acts-are-calls : ActsAreCalls
 unfolding done offerAct stepAct collectAct withdrawAct processVerdict offerVerdict withdrawVerdict offerList offered step stepped effectOn collect withdraw
 acts-are-calls = record {
   offers = λ t p q list. if-done t p q (offerVerdict t p list) _ (offered t p list) refl;
-  steps = λ t p. let x = process t p in let q = partnerOf x in if-done t p q (processVerdict t p) _ _ (applied-done t p q (rule p x q (process t q)) (rule-only-told p x q (process t q)));
+  steps = λ t p. let x = process t p in let q = partnerOf x in if-done t p q (processVerdict t p) _ _ (applied-done t p q (rule (t .head .nap) p x q (process t q)) (rule-only-told (t .head .nap) p x q (process t q)));
   collects = λ t p q. if-done t p q (processVerdict t p) _ _ (collected-done t p q (process t p .place));
   withdraws = λ t p q. if-done t p q (withdrawVerdict t p) _ _ (withdrawn-done t p q (commitCameFirst (process t p .place) (process t p .accepting)));
 }
@@ -128,7 +128,7 @@ module _ (t : ProcessTable) (p : ℕ) (formed : Bool) (form : formed ≡ wellFor
   unfolding stepAct
   step-done q named e =
       rw (e, form, named)
-      (at-places t p (partnerOf (process t p)) (p % mostProcesses) (partnerOf x % mostProcesses) (λ x. Verdict.Accepted) (λ x y. movedAct (t .head) (changeOf x y (rule p x (partnerOf x) y))) (λ a. (inside t p a .own, rw (inside t p a .own) (inside t p a .partner)))
+      (at-places t p (partnerOf (process t p)) (p % mostProcesses) (partnerOf x % mostProcesses) (λ x. Verdict.Accepted) (λ x y. movedAct (t .head) (changeOf x y (rule (t .head .nap) p x (partnerOf x) y))) (λ a. (inside t p a .own, rw (inside t p a .own) (inside t p a .partner)))
       ∙ acts-are-calls .steps t p)
 
   pub collect-done : (j : ℕ) → act ≡ collectAct formed (t .head) p x → done t (p % mostProcesses) j act ≡ collect t p

@@ -16,7 +16,7 @@ use Rattle.process.specs.Fits.{processFits}
 use Rattle.process.specs.InCode.{committedAt}
 use Rattle.process.proofs.OnlyTold.{fits-committed, partner-below}
 use Rattle.alternative.proofs.Tests.{and-parts}
-use Rattle.rendezvous.specs.WellFormed.{allBelow, countFits, fitsAt, wellFormed}
+use Rattle.rendezvous.specs.WellFormed.{allBelow, countFits, napFits, fitsAt, wellFormed}
 use Rattle.rendezvous.specs.Forms.{formStart, formMore, formEnd, formBelow, FormsAreWellFormed}
 
 all-at : (test : ℕ → Bool) (k n : ℕ) → k < n → allBelow test n ≡ true → test k ≡ true
@@ -36,26 +36,26 @@ count-most n e = leb-true n mostProcesses (and-parts (leb 2 n) (leb n mostProces
 
 pub formed-most : (t : ProcessTable) → wellFormed t ≡ true → t .head .n ≤ mostProcesses
 unfolding wellFormed
-formed-most t e = count-most (t .head .n) (and-parts (countFits (t .head .n)) (allBelow (fitsAt t) (t .head .n)) e .0)
+formed-most t e = count-most (t .head .n) (and-parts (countFits (t .head .n)) (napFits (t .head .nap) && allBelow (fitsAt t) (t .head .n)) e .0)
 
 pub formed-fits : (t : ProcessTable) (p : ℕ) → wellFormed t ≡ true → p < t .head .n → fitsAt t p ≡ true
 unfolding wellFormed
-formed-fits t p e h = all-at (fitsAt t) p (t .head .n) h (and-parts (countFits (t .head .n)) (allBelow (fitsAt t) (t .head .n)) e .1)
+formed-fits t p e h = all-at (fitsAt t) p (t .head .n) h (and-parts (napFits (t .head .nap)) (allBelow (fitsAt t) (t .head .n)) (and-parts (countFits (t .head .n)) _ e .1) .1)
 
 -- One that fits names a process below n. So the record may be read at any place that is the partner's where it is below the most processes.
 partner-read : (t : ProcessTable) (k : ℕ) (x : Process) → countFits (t .head .n) ≡ true → let q = partnerOf x in
-    processFits (t .head .n) k x (process t (q % mostProcesses) .altcount) ≡ processFits (t .head .n) k x (process t q .altcount)
+    processFits (t .head .n) (t .head .nap) k x (process t (q % mostProcesses) .altcount) ≡ processFits (t .head .n) (t .head .nap) k x (process t q .altcount)
 partner-read t k x c = go (fits (q % mostProcesses)) (fits q) refl refl
   where
     q : ℕ
     q = partnerOf x
 
     fits : ℕ → Bool
-    fits j = processFits (t .head .n) k x (process t j .altcount)
+    fits j = processFits (t .head .n) (t .head .nap) k x (process t j .altcount)
 
     same : (j : ℕ) → fits j ≡ true → fits (q % mostProcesses) ≡ fits q
     same j e =
-        let below : q < t .head .n = partner-below (t .head .n) k x _ e (omega (arith, count-least (t .head .n) c)) in
+        let below : q < t .head .n = partner-below (t .head .n) (t .head .nap) k x _ e (omega (arith, count-least (t .head .n) c)) in
         let inside : q < mostProcesses = omega (arith, count-most (t .head .n) c) in
         rw (mod-eq-of-lt inside)
 
@@ -71,7 +71,7 @@ pub record FormAt (t : ProcessTable) (k : ℕ) (form : Form) : Type 0 where
 
 pub form-start : (t : ProcessTable) (form : Form) → form ≡ formStart (t .head) → FormAt t 0 form
 unfolding formBelow
-form-start t form e = record { so-far = λ _. e; unfit = λ c. rw e c }
+form-start t form e = record { so-far = λ _. e; unfit = λ c. rw (e, c) }
 
 -- one turn of the loop, from what it reads: q is the process that k is committed to
 pub form-more : (t : ProcessTable) (k : ℕ) (form form′ : Form) (q : ℕ) → k < t .head .n → FormAt t k form
@@ -87,19 +87,19 @@ form-more t k form form′ q below f named e = record { so-far = fits; unfit = �
         let x = process t k in
         let at-q : q ≡ committedAt x (x .place) = rw j at named in
         let tested : form′ ≡ formMore form (t .head) k x (process t (q % mostProcesses) .altcount) = rw j at e in
-        let partner : processFits (t .head .n) k x (process t (q % mostProcesses) .altcount) ≡ processFits (t .head .n) k x (process t (partnerOf x) .altcount) =
-        rw at-q (fits-committed (t .head .n) k x (λ j. process t (j % mostProcesses) .altcount) ∙ partner-read t k x c) in
+        let partner : processFits (t .head .n) (t .head .nap) k x (process t (q % mostProcesses) .altcount) ≡ processFits (t .head .n) (t .head .nap) k x (process t (partnerOf x) .altcount) =
+        rw at-q (fits-committed (t .head .n) (t .head .nap) k x (λ j. process t (j % mostProcesses) .altcount) ∙ partner-read t k x c) in
         tested ∙ rw (f .so-far c, add-one, partner) refl
 
 -- the processes below k fit, and so does the head
-below-fits : (t : ProcessTable) (k : ℕ) → formBelow t k .fits ≡ (countFits (t .head .n) && allBelow (fitsAt t) k)
+below-fits : (t : ProcessTable) (k : ℕ) → formBelow t k .fits ≡ ((countFits (t .head .n) && napFits (t .head .nap)) && allBelow (fitsAt t) k)
 unfolding formBelow allBelow fitsAt
-below-fits t zero = sym (and-true (countFits (t .head .n)))
-below-fits t (suc k) = rw (below-fits t k) (and-assoc (countFits (t .head .n)) (allBelow (fitsAt t) k) _)
+below-fits t zero = sym (and-true (countFits (t .head .n) && napFits (t .head .nap)))
+below-fits t (suc k) = rw (below-fits t k) (and-assoc (countFits (t .head .n) && napFits (t .head .nap)) (allBelow (fitsAt t) k) _)
 
 pub forms-are-well-formed : FormsAreWellFormed
 unfolding wellFormed
-forms-are-well-formed t = below-fits t (t .head .n)
+forms-are-well-formed t = below-fits t (t .head .n) ∙ and-assoc (countFits (t .head .n)) (napFits (t .head .nap)) _
 
 pub form-end : (t : ProcessTable) (k : ℕ) (form : Form) (formed : Bool) → k ≡ t .head .n → FormAt t k form → formed ≡ formEnd form (t .head) → formed ≡ wellFormed t
 unfolding wellFormed

@@ -18,7 +18,7 @@ use Rattle.rendezvous.proofs.Verdicts.{process-passed}
 -- a process that fits, and its partner, below n
 partner-inside : (t : ProcessTable) (p : ℕ) → fitsAt t p ≡ true → 0 < t .head .n → partnerOf (process t p) < t .head .n
 unfolding fitsAt
-partner-inside t p e h = partner-below (t .head .n) p (process t p) _ e h
+partner-inside t p e h = partner-below (t .head .n) (t .head .nap) p (process t p) _ e h
 
 pub record Inside (t : ProcessTable) (p : ℕ) : Type 0 where
   pub own : p % mostProcesses ≡ p
@@ -39,10 +39,10 @@ process-accepted t p e h = rw (e, lt-ltb p (t .head .n) h)
 
 -- what the code reads of process p tells whether a step changes the table
 pub member-read : (t : ProcessTable) (p q : ℕ) (r : Bool) → wellFormed t ≡ true → p < t .head .n → q ≡ partnerOf (process t (p % mostProcesses))
-    → ((m n : ℕ) → r ≡ changes (rule m (process t (p % mostProcesses)) n (process t (q % mostProcesses)))) → changes (effectOn t p) ≡ r
+    → ((d m n : ℕ) → r ≡ changes (rule d m (process t (p % mostProcesses)) n (process t (q % mostProcesses)))) → changes (effectOn t p) ≡ r
 unfolding effectOn
 member-read t p q r e h f g =
     let i = inside t p (process-accepted t p e h) in
     let at-q : q ≡ partnerOf (process t p) = rw (i .own) at f in
-    let read : r ≡ changes (rule p (process t (p % mostProcesses)) q (process t (q % mostProcesses))) = g p q in
+    let read : r ≡ changes (rule (t .head .nap) p (process t (p % mostProcesses)) q (process t (q % mostProcesses))) = g (t .head .nap) p q in
     sym (rw (i .own, at-q, i .partner) at read)

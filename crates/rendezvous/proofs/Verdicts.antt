@@ -116,7 +116,7 @@ first-closed (Place.Committed i j) accepting e = refl
 first-closed Place.Posting accepting e = refl
 first-closed Place.Opening accepting e = refl
 first-closed Place.Showing accepting e = refl
-first-closed Place.Asleep accepting e = refl
+first-closed (Place.Asleep s) accepting e = refl
 first-closed Place.Waiting accepting e = refl
 first-closed (Place.Met i m) accepting e = absurd (false≢true e)
 

@@ -32,7 +32,7 @@ abbrev pub movedAct : Head → Change → Act
 movedAct h c = record { answer = cond (c .moved) (Answer.Moved (c .own .place)) Answer.Unchanged; head = h; own = c .own; told = c .told; accepting = c .accepting; signal = c .signal }
 
 unfoldable pub stepAct : Bool → Head → ℕ → Process → ℕ → Process → Act
-stepAct formed h p x q y = unlessRefused (processTests formed (h .n) p Verdict.Accepted) h x (movedAct h (changeOf x y (rule p x q y)))
+stepAct formed h p x q y = unlessRefused (processTests formed (h .n) p Verdict.Accepted) h x (movedAct h (changeOf x y (rule (h .nap) p x q y)))
 
 -- Collect. It "takes a party at M, gives its outcome's guard index, the partner that this guard of its list names, and the outcome's message .., removes the outcome
 -- and sets I."; 13: "a collection from a party that is not at M"

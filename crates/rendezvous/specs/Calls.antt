@@ -1,4 +1,4 @@
--- To be believed. Document 01, "Calls", and CR 1 of document 02: what each call answers, and the table that it hands back.
+-- To be believed. Document 01, "Calls", and CRs 1 and 3 of document 02: what each call answers, and the table that it hands back.
 use Rattle.alternative.specs.Guards.{slots, lent}
 use Rattle.process.specs.Process.{isAt, ifMet, ownGuard}
 use Rattle.process.specs.Rules.{Effect, Neither, Own, Both, changed, atPlace, rule, partnerOf}
@@ -16,9 +16,9 @@ abbrev pub ifAccepted : Verdict → ProcessTable → Reply → Reply
 ifAccepted Verdict.Accepted t reply = reply
 ifAccepted (Verdict.Refused refusal) t reply = refused refusal t
 
--- New. Where it is refused, "No desk is made.": beside the refusal stands the table of no process, on which every call is refused by 7.
-unfoldable pub create : ℕ → Reply
-create n = ifAccepted (createVerdict n) (freshTable 0) (record { answer = Answer.Made; table = freshTable n })
+-- New; CR 3: "A desk is now made with a nap length d". Where it is refused, "No desk is made.": beside the refusal stands the table of no process, on which every call is refused by 7.
+unfoldable pub create : ℕ → ℕ → Reply
+create n d = ifAccepted (createVerdict n d) (freshTable 0 0) (record { answer = Answer.Made; table = freshTable n d })
 
 -- Offer, of a list given by value. "The list is copied, the next ticket is given, the place becomes E."
 unfoldable pub entering : Process → TransactionId → GuardList → Process
@@ -39,7 +39,7 @@ offer t p gs = offerList t p (lent gs)
 
 -- Step. It "moves one party by one rule and says the new place, or says that nothing changed."
 unfoldable pub effectOn : ProcessTable → ℕ → Effect
-effectOn t p = let x = process t p in rule p x (partnerOf x) (process t (partnerOf x))
+effectOn t p = let x = process t p in rule (t .head .nap) p x (partnerOf x) (process t (partnerOf x))
 
 abbrev pub applied : ProcessTable → ℕ → ℕ → Effect → Reply
 applied t p q Neither = record { answer = Answer.Unchanged; table = t }

@@ -4,15 +4,15 @@ use Rattle.process.specs.Rules.{partnerOf}
 use Rattle.rendezvous.specs.declared.Form.{Form}
 use Rattle.rendezvous.specs.Types.{ℕ, zero, suc, _≡_, Bool, _&&_, Process, Head, ProcessTable}
 use Rattle.rendezvous.specs.Table.{process}
-use Rattle.rendezvous.specs.WellFormed.{countFits, wellFormed}
+use Rattle.rendezvous.specs.WellFormed.{countFits, napFits, wellFormed}
 
 -- the head
 abbrev pub formStart : Head → Form
-formStart h = record { fits = countFits (h .n) }
+formStart h = record { fits = countFits (h .n) && napFits (h .nap) }
 
 -- process k with record x; the process that its guard names at C has posted this many
 abbrev pub formMore : Form → Head → ℕ → Process → ℕ → Form
-formMore form h k x posted = record { fits = form .fits && processFits (h .n) k x posted }
+formMore form h k x posted = record { fits = form .fits && processFits (h .n) (h .nap) k x posted }
 
 -- whether the table is well-formed, once every process is tested
 abbrev pub formEnd : Form → Head → Bool

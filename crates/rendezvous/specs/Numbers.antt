@@ -1,10 +1,13 @@
--- To be believed. Document 01's numbers and values for each case of an answer, and those of CR 1 of document 02.
+-- To be believed. Document 01's numbers and values for each case of an answer, and those of CRs 1 and 3 of document 02.
 use Rattle.process.specs.Process.{letterOf, indexOf}
 use Rattle.rendezvous.specs.Types.{ℕ, Option, Message, Refusal, Answer}
 
 -- "What turns a call away"
 abbrev pub refusalNumber : Refusal → ℕ
 refusalNumber Refusal.ProcessCount = 1
+-- CR 3
+refusalNumber Refusal.NapLength = 15
+-- document 01
 refusalNumber Refusal.NotWellFormed = 7
 refusalNumber Refusal.NoSuchProcess = 2
 refusalNumber Refusal.GuardCount = 3

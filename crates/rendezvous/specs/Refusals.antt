@@ -1,4 +1,4 @@
--- To be believed. Document 01, "What turns a call away": what each call is tested for, in order. 13, of a collection alone, is in Calls. And CR 1 of document 02.
+-- To be believed. Document 01, "What turns a call away": what each call is tested for, in order. 13, of a collection alone, is in Calls. And CRs 1 and 3 of document 02.
 use Rattle.alternative.specs.Guards.{mostGuards, anyGuard}
 use Rattle.alternative.specs.Exchange.{actionHoldsNan}
 use Rattle.process.specs.Process.{isAt, isIdle}
@@ -6,16 +6,16 @@ use Rattle.process.specs.Fits.{partnerFits}
 use Rattle.rendezvous.specs.Types.{ℕ, Bool, true, false, not, _&&_, List, [], _∷_, take, ltb, leb, Guard, GuardList, TransactionId, Place, Head}
 use Rattle.rendezvous.specs.Types.{ProcessTable, Refusal, Verdict}
 use Rattle.rendezvous.specs.Table.{lastTransaction, process}
-use Rattle.rendezvous.specs.WellFormed.{countFits, wellFormed}
+use Rattle.rendezvous.specs.WellFormed.{countFits, napFits, wellFormed}
 
 -- one test: what fails it is refused, what passes it goes on to the rest
 abbrev pub require : Bool → Refusal → Verdict → Verdict
 require true refusal rest = rest
 require false refusal rest = Verdict.Refused refusal
 
--- a new table of n processes: 1
-unfoldable pub createVerdict : ℕ → Verdict
-createVerdict n = require (countFits n) Refusal.ProcessCount Verdict.Accepted
+-- a new table of n processes with nap length d: 1, and CR 3: "After the party count is tested, d = 0 gives 15."
+unfoldable pub createVerdict : ℕ → ℕ → Verdict
+createVerdict n d = require (countFits n) Refusal.ProcessCount (require (napFits d) Refusal.NapLength Verdict.Accepted)
 
 -- movers: 7
 unfoldable pub tableVerdict : ProcessTable → Verdict

@@ -1,4 +1,4 @@
--- To be believed. Document 01, "What turns a call away", refusal 7: it is given exactly where `wellFormed` is false.
+-- To be believed. Document 01, "What turns a call away", refusal 7, and CR 3 of document 02: it is given exactly where `wellFormed` is false.
 use Rattle.process.specs.Rules.{partnerOf}
 use Rattle.process.specs.Fits.{processFits}
 use Rattle.rendezvous.specs.Types.{ℕ, zero, suc, Bool, true, _&&_, leb, ProcessTable}
@@ -13,9 +13,13 @@ allBelow test (suc n) = allBelow test n && test n
 unfoldable pub countFits : ℕ → Bool
 countFits n = leb 2 n && leb n mostProcesses
 
+-- CR 3: not "a desk with d = 0"
+unfoldable pub napFits : ℕ → Bool
+napFits d = leb 1 d
+
 -- process p fits; a kept index at C is held against the posted list of the process that its guard names
 unfoldable pub fitsAt : ProcessTable → ℕ → Bool
-fitsAt t p = let x = process t p in processFits (t .head .n) p x (process t (partnerOf x) .altcount)
+fitsAt t p = let x = process t p in processFits (t .head .n) (t .head .nap) p x (process t (partnerOf x) .altcount)
 
 unfoldable pub wellFormed : ProcessTable → Bool
-wellFormed t = countFits (t .head .n) && allBelow (fitsAt t) (t .head .n)
+wellFormed t = countFits (t .head .n) && (napFits (t .head .nap) && allBelow (fitsAt t) (t .head .n))

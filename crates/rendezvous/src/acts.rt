@@ -91,7 +91,7 @@ pub fn step_act(formed: bool, head: Head, p: u8, x: Process, q: u8, y: Process) 
     match process_verdict(formed, head.n, p) {
         Verdict::Refused(refusal) => alone(Answer::Refused(refusal), head, x),
         Verdict::Accepted => {
-            let c = rule(p, x, q, y);
+            let c = rule(head.nap, p, x, q, y);
             let own = c.own;
             let place = own.place;
             let signal = c.signal;

@@ -3,51 +3,55 @@ use crate::Answer;
 use crate::Head;
 use crate::MOST_PROCESSES;
 use crate::ProcessTable;
-use crate::Refusal;
 use crate::Reply;
-use crate::well_formed::count_fits;
+use crate::Verdict;
+use crate::refusals::create_verdict;
 use process::TransactionId;
 use process::fresh_process;
 ghost use mathlib.Core.Path.{_≡_};
 ghost use Rattle.rendezvous.specs.Table.{freshHead, freshTable};
 ghost use Rattle.rendezvous.specs.Calls.{create};
 
-// The head of a fresh table of n processes.
-pub fn fresh_head(n: u8) -> Head
-    ensures { λ r. ⌜ r ≡ freshHead n ⌝ }
+// The head of a fresh table of n processes with naps of `nap` own steps.
+pub fn fresh_head(n: u8, nap: u8) -> Head
+    ensures { λ r. ⌜ r ≡ freshHead n nap ⌝ }
 {
     Head {
         n: n,
+        nap: nap,
         next: TransactionId(0),
     }
 }
 
-fn fresh_table(n: u8) -> ProcessTable
-    ensures { λ r. ⌜ r ≡ freshTable n ⌝ }
+fn fresh_table(n: u8, nap: u8) -> ProcessTable
+    ensures { λ r. ⌜ r ≡ freshTable n nap ⌝ }
 {
     let process = fresh_process();
     let processes = [process; MOST_PROCESSES as usize];
     ProcessTable {
-        head: fresh_head(n),
+        head: fresh_head(n, nap),
         processes: processes,
     }
 }
 
+// An answer beside a fresh table. The reply is made at one place, or the table would be copied.
+fn fresh_reply(answer: Answer, n: u8, nap: u8) -> Reply
+    ensures { λ r. ⌜ r ≡ record { answer = answer; table = freshTable n nap } ⌝ }
+{
+    Reply {
+        answer: answer,
+        table: fresh_table(n, nap),
+    }
+}
+
 impl ProcessTable {
-    // A fresh table of n processes, or refusal 1.
-    pub fn create(n: u8) -> Reply
-        ensures { λ r. ⌜ r ≡ create n ⌝ }
+    // A fresh table of n processes with naps of `nap` own steps, or refusal 1 or 15.
+    pub fn create(n: u8, nap: u8) -> Reply
+        ensures { λ r. ⌜ r ≡ create n nap ⌝ }
     {
-        if count_fits(n) {
-            Reply {
-                answer: Answer::Made,
-                table: fresh_table(n),
-            }
-        } else {
-            Reply {
-                answer: Answer::Refused(Refusal::ProcessCount),
-                table: fresh_table(0),
-            }
+        match create_verdict(n, nap) {
+            Verdict::Accepted => fresh_reply(Answer::Made, n, nap),
+            Verdict::Refused(refusal) => fresh_reply(Answer::Refused(refusal), 0, 0),
         }
     }
 }

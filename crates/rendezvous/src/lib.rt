@@ -36,9 +36,10 @@ pub const MOST_PROCESSES: u8 = 32;
 
 pub const LAST_TRANSACTION: u32 = 4294967295;
 
-// What a table holds beside its records: the number of processes and the next ticket.
+// What a table holds beside its records: the number of processes, how many own steps a nap takes, and the next ticket.
 pub struct Head {
     pub n: u8,
+    pub nap: u8,
     pub next: TransactionId,
 }
 
@@ -69,6 +70,7 @@ pub enum Refusal {
     LastTransaction,
     NotMet,
     NothingToWithdraw,
+    NapLength,
 }
 
 // Whether a call is turned away.

@@ -19,6 +19,7 @@ impl Refusal {
             Refusal::LastTransaction => 12,
             Refusal::NotMet => 13,
             Refusal::NothingToWithdraw => 14,
+            Refusal::NapLength => 15,
         }
     }
 }

@@ -1,8 +1,10 @@
-// What turns a call of one process away: the tests in their order, on what the call reads of the table.
+// What turns a call away, a new table or a call of one process: the tests in their order, on what the call reads of the table.
 use crate::Head;
 use crate::LAST_TRANSACTION;
 use crate::Refusal;
 use crate::Verdict;
+use crate::well_formed::count_fits;
+use crate::well_formed::nap_fits;
 use alternative::Guard;
 use alternative::GuardList;
 use alternative::action_holds_nan;
@@ -12,7 +14,21 @@ use process::TransactionId;
 use process::partner_fits;
 ghost use mathlib.Core.Path.{_≡_};
 ghost use lib.ListN.{take};
-ghost use Rattle.rendezvous.specs.Refusals.{processTests, requireGuards, listVerdict, stateVerdict, offerTests, withdrawTests};
+ghost use Rattle.rendezvous.specs.Refusals.{createVerdict, processTests, requireGuards, listVerdict, stateVerdict, offerTests, withdrawTests};
+
+// A new table: 1, then 15.
+pub fn create_verdict(n: u8, nap: u8) -> Verdict
+    ensures { λ r. ⌜ r ≡ createVerdict n nap ⌝ }
+{
+    if !count_fits(n) {
+        return Verdict::Refused(Refusal::ProcessCount);
+    }
+    if nap_fits(nap) {
+        Verdict::Accepted
+    } else {
+        Verdict::Refused(Refusal::NapLength)
+    }
+}
 
 // 7, then 2: `formed` says whether the table of n is well-formed.
 pub fn process_verdict(formed: bool, n: u8, p: u8) -> Verdict

@@ -6,7 +6,7 @@ use crate::ProcessTable;
 use process::Process;
 use process::process_fits;
 ghost use mathlib.Core.Path.{_≡_};
-ghost use Rattle.rendezvous.specs.WellFormed.{countFits, wellFormed};
+ghost use Rattle.rendezvous.specs.WellFormed.{countFits, napFits, wellFormed};
 ghost use Rattle.rendezvous.specs.Forms.{formStart, formMore, formEnd};
 
 pub fn count_fits(n: u8) -> bool
@@ -15,12 +15,18 @@ pub fn count_fits(n: u8) -> bool
     (2 <= n) & (n <= MOST_PROCESSES)
 }
 
+pub fn nap_fits(nap: u8) -> bool
+    ensures { λ r. ⌜ r ≡ napFits nap ⌝ }
+{
+    1 <= nap
+}
+
 // The test begins with the head. It has three parts, so that the loop over the records, which stands in each call that reads a table, holds no condition of 7.
 pub fn form_start(head: Head) -> Form
     ensures { λ r. ⌜ r ≡ formStart head ⌝ }
 {
     Form {
-        fits: count_fits(head.n),
+        fits: count_fits(head.n) & nap_fits(head.nap),
     }
 }
 
@@ -28,7 +34,7 @@ pub fn form_start(head: Head) -> Form
 pub fn form_more(form: Form, head: Head, k: u8, x: Process, posted: u8) -> Form
     ensures { λ r. ⌜ r ≡ formMore form head k x posted ⌝ }
 {
-    let fits = process_fits(head.n, k, x, posted);
+    let fits = process_fits(head.n, head.nap, k, x, posted);
     Form {
         fits: form.fits & fits,
     }

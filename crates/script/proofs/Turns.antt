@@ -95,15 +95,15 @@ line-done t Verb.New p list formed q act form named e = rw e (nothing-done t (p 
 line-done t Verb.Movers p list formed q act form named e = rw e (nothing-done t (p % mostProcesses) (q % mostProcesses) Answer.Unchanged)
 
 -- `n` and `m` come after the calls of one process, which they find undone
-abbrev replyAfter : ProcessTable → Verb → ℕ → GuardList → Reply
-replyAfter t k n list = cond (isNew k) (newReply t n) (cond (isMovers k) (runnable t) (calledBy t k n list))
+abbrev replyAfter : ProcessTable → Verb → ℕ → ℕ → GuardList → Reply
+replyAfter t k n d list = cond (isNew k) (newReply t n d) (cond (isMovers k) (runnable t) (calledBy t k n list))
 
 abbrev madeAfter : Bool → Verb → Answer → Bool
 madeAfter made k answer = cond (isNew k) (made || not (isRefused answer)) made
 
 -- what the code has after a command
-pub record Has (made : Bool) (t : ProcessTable) (k : Verb) (n : ℕ) (list : GuardList) (made′ : Bool) (reply : Reply) : Type 0 where
-  pub replies : reply ≡ replyAfter t k n list
+pub record Has (made : Bool) (t : ProcessTable) (k : Verb) (n d : ℕ) (list : GuardList) (made′ : Bool) (reply : Reply) : Type 0 where
+  pub replies : reply ≡ replyAfter t k n d list
   pub makes : made′ ≡ madeAfter made k (reply .answer)
 
 undone : (t : ProcessTable) (k : Verb) (n : ℕ) (list : GuardList) → (isNew k || isMovers k) ≡ true → calledBy t k n list .table ≡ t
@@ -120,17 +120,17 @@ movers-leave Verdict.Accepted t answer = refl
 movers-leave (Verdict.Refused r) t answer = refl
 
 -- after the call of one process, whose reply is `before`
-module _ (made : Bool) (t : ProcessTable) (k : Verb) (n : ℕ) (list : GuardList) (before : Reply) (called : before ≡ calledBy t k n list) where
-  pub has-called : isNew k ≡ false → isMovers k ≡ false → Has made t k n list made before
+module _ (made : Bool) (t : ProcessTable) (k : Verb) (n d : ℕ) (list : GuardList) (before : Reply) (called : before ≡ calledBy t k n list) where
+  pub has-called : isNew k ≡ false → isMovers k ≡ false → Has made t k n d list made before
   has-called e f = record { replies = rw (e, f) called; makes = rw e refl }
 
   same-table : (isNew k || isMovers k) ≡ true → before .table ≡ t
   same-table e = ap (λ (r : Reply). r .table) called ∙ undone t k n list e
 
-  pub has-new : isNew k ≡ true → (reply : Reply) (made′ : Bool) → reply ≡ newReply (before .table) n → made′ ≡ (made || not (isRefused (reply .answer))) → Has made t k n list made′ reply
+  pub has-new : isNew k ≡ true → (reply : Reply) (made′ : Bool) → reply ≡ newReply (before .table) n d → made′ ≡ (made || not (isRefused (reply .answer))) → Has made t k n d list made′ reply
   has-new e reply made′ g h = record { replies = rw e (rw (same-table (rw e refl)) at g); makes = rw e h }
 
-  pub has-movers : isNew k ≡ false → isMovers k ≡ true → (reply : Reply) → reply ≡ runnable (before .table) → Has made t k n list made (record { answer = reply .answer; table = before .table })
+  pub has-movers : isNew k ≡ false → isMovers k ≡ true → (reply : Reply) → reply ≡ runnable (before .table) → Has made t k n d list made (record { answer = reply .answer; table = before .table })
   unfolding runnable
   has-movers e f reply g =
       let same : before .table ≡ t = same-table (rw (e, f) refl) in
@@ -139,18 +139,18 @@ module _ (made : Bool) (t : ProcessTable) (k : Verb) (n : ℕ) (list : GuardList
       record { replies = rw (e, f, same) (ap (λ (u : ProcessTable). record { answer = reply .answer; table = u }) (sym leaves) ∙ is); makes = rw e refl }
 
 -- what it prints and leaves is the command's turn
-left-turn : (made : Bool) (t : ProcessTable) (c : Option Command) → let p = heard made (asParsed c) in let r = replyAfter t (p .verb) (p .number) (p .list) in
+left-turn : (made : Bool) (t : ProcessTable) (c : Option Command) → let p = heard made (asParsed c) in let r = replyAfter t (p .verb) (p .number) (p .nap) (p .list) in
     _≡_ {A = Turn} (record { prints = lineText (p .verb) (p .number) (r .answer); table = tableIf (madeAfter made (p .verb) (r .answer)) (r .table) }) (turn (tableIf made t) c)
 unfolding GoesOn lineText turn replyFrom replyToCommand replyTo answered newReply
 left-turn true t none = refl
-left-turn true t (some (New n)) = rw (new-goes true (isRefused (create n .answer)) t (create n .table))
+left-turn true t (some (New n d)) = rw (new-goes true (isRefused (create n d .answer)) t (create n d .table))
 left-turn true t (some (Do (Offer p gs))) = rw (call-goes t (Offer p gs))
 left-turn true t (some (Do (Step p))) = rw (call-goes t (Step p))
 left-turn true t (some (Do (Collect p))) = rw (call-goes t (Collect p))
 left-turn true t (some (Do (Withdraw p))) = rw (call-goes t (Withdraw p))
 left-turn true t (some Movers) = rw (movers-goes t)
 left-turn false t none = refl
-left-turn false t (some (New n)) = rw (new-goes false (isRefused (create n .answer)) t (create n .table))
+left-turn false t (some (New n d)) = rw (new-goes false (isRefused (create n d .answer)) t (create n d .table))
 left-turn false t (some (Do (Offer p gs))) = refl
 left-turn false t (some (Do (Step p))) = refl
 left-turn false t (some (Do (Collect p))) = refl
@@ -158,7 +158,7 @@ left-turn false t (some (Do (Withdraw p))) = refl
 left-turn false t (some Movers) = refl
 
 pub line-turn : (made : Bool) (t : ProcessTable) (line : List ℕ) (c p : Parsed) (text : List ℕ) (made′ : Bool) (reply : Reply) → c ≡ asParsed (lineCommand (Ended line)) → p ≡ heard made c
-    → Has made t (p .verb) (p .number) (p .list) made′ reply → text ≡ lineText (p .verb) (p .number) (reply .answer)
+    → Has made t (p .verb) (p .number) (p .nap) (p .list) made′ reply → text ≡ lineText (p .verb) (p .number) (reply .answer)
     → _≡_ {A = Turn} (record { prints = text; table = tableIf made′ (reply .table) }) (turn (tableIf made t) (lineCommand (Ended line)))
 line-turn made t line c p text made′ reply parsed hears has prints = rw (prints, has .makes, has .replies, hears, parsed) (left-turn made t (lineCommand (Ended line)))
 
@@ -173,7 +173,7 @@ unfolding answered
 answered-length table command reply h = simp length-append (omega (arith, answer-length command (said (reply .answer)) h))
 
 command-length : (c : Command) → length (commandText c) ≤ 12
-command-length (New n) = number-length (code "n") n
+command-length (New n d) = number-length (code "n") n
 command-length (Do (Offer p gs)) = number-length (code "o") p
 command-length (Do (Step p)) = number-length (code "s") p
 command-length (Do (Collect p)) = number-length (code "c") p

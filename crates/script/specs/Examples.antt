@@ -1,4 +1,4 @@
--- To be believed. Document 01, "The script program": the marked session, byte for byte; limits and whole numbers; what gives 8; and, of document 02, slots that close (CR 1) and two sensors (CR 2).
+-- To be believed. Document 01, "The script program": the marked session, byte for byte; limits and whole numbers; what gives 8; and, of document 02, slots that close (CR 1), two sensors (CR 2) and naps (CR 3).
 use Prim.Native.Nat.{ℕ}
 use mathlib.Core.Path.{_≡_}
 use mathlib.Core.List.{List, _++_, flatten}
@@ -47,3 +47,10 @@ abbrev pub TwoSensors : Type 0
 TwoSensors =
     output (bytes "n 2\no 0 1?:1 1?:2\ns 0\ns 0\ns 0\ns 0\ns 0\ns 0\no 1 0!w340:2 0!w21:1\ns 1\ns 1\ns 1\ns 1\ns 0\nc 0\nc 1\no 1 0!w21:1\no 0 1?:2 1?:1\ns 1\ns 1\ns 1\ns 1\ns 1\ns 0\ns 0\ns 0\ns 0\ns 0\ns 0\ns 1\nc 0\no 0 1?:256\n")
     ≡ bytes "n 2\no 0 t0\ns 0 A0\ns 0 A1\ns 0 P\ns 0 O\ns 0 H\ns 0 W\no 1 t1\ns 1 A0\ns 1 T0\ns 1 C0\ns 1 M\ns 0 M\nc 0 1 1 w340\nc 1 0 0 0\no 1 t2\no 0 t3\ns 1 A0\ns 1 P\ns 1 O\ns 1 H\ns 1 W\ns 0 A0\ns 0 T0\ns 0 A1\ns 0 T1\ns 0 C1\ns 0 M\ns 1 M\nc 0 1 1 w21\nx 8\n"
+
+-- CR 3: "a sleeper leaves S at its d-th own step there", here the third; 15 after 1, and 8 for a D over 255; "An `n` line shows N alone". While 1 naps, 0 passes. Process 1 naps once
+-- more, and the count begins anew; "`n N` without a second number means 1".
+abbrev pub Naps : Type 0
+Naps =
+    output (bytes "n 1 0\nn 2 0\nn 2 256\nn 2 3\no 0 1!r40970a3d\no 1 0?\ns 0\ns 1\ns 0\ns 1\ns 1\nm\ns 1\ns 1\ns 0\ns 1\ns 1\ns 0\nm\nn 2\no 0 1?\no 1 0!0\ns 0\ns 1\ns 1\ns 1\n")
+    ≡ bytes "x 1\nx 15\nx 8\nn 2\no 0 t0\no 1 t1\ns 0 A0\ns 1 A0\ns 0 =\ns 1 S\ns 1 S\nm 00000003\ns 1 S\ns 1 A0\ns 0 =\ns 1 S\ns 1 S\ns 0 P\nm 00000003\nn 2\no 0 t0\no 1 t1\ns 0 A0\ns 1 A0\ns 1 S\ns 1 A0\n"

@@ -25,7 +25,7 @@ refusalText k = code "x" ∷ field (decimalText k)
 
 -- how the line of an accepted command begins: "An `n` line shows N alone", an `o`, `s` or `c` line "the party"; "`w P` prints `w`, P and"
 abbrev pub commandText : Command → List ℕ
-commandText (New n) = code "n" ∷ field (decimalText n)
+commandText (New n d) = code "n" ∷ field (decimalText n)
 commandText (Do (Offer p gs)) = code "o" ∷ field (decimalText p)
 commandText (Do (Step p)) = code "s" ∷ field (decimalText p)
 commandText (Do (Collect p)) = code "c" ∷ field (decimalText p)

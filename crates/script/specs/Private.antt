@@ -53,8 +53,8 @@ lineAct Verb.New p list formed h x q y = alone Answer.Unchanged h x
 lineAct Verb.Movers p list formed h x q y = alone Answer.Unchanged h x
 
 -- the reply to `n`, with the table that goes on
-unfoldable pub newReply : ProcessTable → ℕ → Reply
-newReply t n = let reply = create n in record { answer = reply .answer; table = cond (isRefused (reply .answer)) t (reply .table) }
+unfoldable pub newReply : ProcessTable → ℕ → ℕ → Reply
+newReply t n d = let reply = create n d in record { answer = reply .answer; table = cond (isRefused (reply .answer)) t (reply .table) }
 
 -- a text put into an output at index `at`, and the index after it; where there is no room for a line, nothing is
 abbrev pub putAt : ℕ → List ℕ → List ℕ → List ℕ

@@ -1,4 +1,4 @@
--- To be believed. Document 01, "The script program", with the calls of CR 1 of document 02: what each line prints, and all that the program prints for its whole input.
+-- To be believed. Document 01, "The script program", and CRs 1 and 3 of document 02: what each line prints, and all that the program prints for its whole input.
 use Prim.Native.Nat.{ℕ}
 use mathlib.Core.Bool.{Bool, true, false, cond}
 use mathlib.Core.List.{List, [], _∷_, _++_}
@@ -13,7 +13,7 @@ use Rattle.script.specs.Lines.{Line, linesFrom, lineCommand}
 -- the reply to a command; "a command but `n` before an accepted `n`" has none
 unfoldable pub replyFrom : Option ProcessTable → Command → Option Reply
 replyFrom (some t) command = some (replyToCommand t command)
-replyFrom none (New n) = some (create n)
+replyFrom none (New n d) = some (create n d)
 replyFrom none (Do call) = none
 replyFrom none Movers = none
 

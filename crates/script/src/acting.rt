@@ -52,10 +52,10 @@ pub fn is_refused(answer: Answer) -> bool
 }
 
 // The reply to `n`: a refused one keeps the old table.
-pub fn created(table: ProcessTable, number: u8) -> Reply
-    ensures { λ r. ⌜ r ≡ newReply table number ⌝ }
+pub fn created(table: ProcessTable, n: u8, nap: u8) -> Reply
+    ensures { λ r. ⌜ r ≡ newReply table n nap ⌝ }
 {
-    let mut reply = ProcessTable::create(number);
+    let mut reply = ProcessTable::create(n, nap);
     let answer = reply.answer;
     if is_refused(answer) {
         reply.table = table;

@@ -34,7 +34,7 @@ pub fn start() -> Session
     ensures { λ r. ⌜ stateHeld r ≡ start ⌝ }
 {
     let bytes = [0u8; BEGUN_BYTES];
-    let reply = ProcessTable::create(0);
+    let reply = ProcessTable::create(0, 0);
     let table = reply.table;
     Session {
         made: false,
@@ -96,7 +96,7 @@ pub fn feed(session: Session, piece: &[u8], out: &mut [u8]) -> Fed
             table.processes[at] = own;
             table.head = after;
             if is_new(command) {
-                let reply = created(table, command.number);
+                let reply = created(table, command.number, command.nap);
                 answer = reply.answer;
                 table = reply.table;
                 made = made | !is_refused(answer);

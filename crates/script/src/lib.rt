@@ -1,6 +1,6 @@
 // The script program of documents 01 and 02, from all input bytes to all output bytes: its lines, commands, calls and printed lines.
 use rendezvous::ProcessTable;
-ghost use Rattle.script.specs.Examples.{MarkedSession, CarriedMessages, MalformedLines, ClosedSlots, TwoSensors};
+ghost use Rattle.script.specs.Examples.{MarkedSession, CarriedMessages, MalformedLines, ClosedSlots, TwoSensors, Naps};
 ghost use Rattle.script.specs.Feeding.{Pieces};
 
 mod acting;
@@ -59,4 +59,9 @@ pub fn closed_slots()
 // Carries two sensors whose whole numbers would cross without kinds, byte for byte.
 pub fn two_sensors()
     ensures { λ _. ⌜ TwoSensors ⌝ }
+{}
+
+// Carries naps of three own steps and of one, and how they are written, byte for byte.
+pub fn naps()
+    ensures { λ _. ⌜ Naps ⌝ }
 {}

@@ -76,7 +76,7 @@ place-back (Place.Committed i kept) h rest = refl
 place-back Place.Posting h rest = refl
 place-back Place.Opening h rest = refl
 place-back Place.Showing h rest = refl
-place-back Place.Asleep h rest = refl
+place-back (Place.Asleep steps) h rest = refl
 place-back Place.Waiting h rest = refl
 place-back (Place.Met i m) h rest = ap (Place.Met i) (message-back m h rest)
 

@@ -44,7 +44,7 @@ place-length (Place.Committed i kept) = omega (arith, message-length Message.Not
 place-length Place.Posting = omega (arith, message-length Message.Nothing)
 place-length Place.Opening = omega (arith, message-length Message.Nothing)
 place-length Place.Showing = omega (arith, message-length Message.Nothing)
-place-length Place.Asleep = omega (arith, message-length Message.Nothing)
+place-length (Place.Asleep steps) = omega (arith, message-length Message.Nothing)
 place-length Place.Waiting = omega (arith, message-length Message.Nothing)
 place-length (Place.Met i m) = omega (arith, message-length m)
 

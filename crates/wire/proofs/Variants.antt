@@ -34,4 +34,4 @@ module _ (s : List ℕ) where
   unfolding placeOf
   last-place h =
       let i = byte s 1 in
-      List·getD-eq-default (Place.Idle ∷ Place.Entering ∷ Place.Scanning i ∷ Place.Trying i ∷ Place.Committed i (byte s 2) ∷ Place.Posting ∷ Place.Opening ∷ Place.Showing ∷ Place.Asleep ∷ Place.Waiting ∷ []) (Place.Met i (messageOf (drop outcomeAt s))) h
+      List·getD-eq-default (Place.Idle ∷ Place.Entering ∷ Place.Scanning i ∷ Place.Trying i ∷ Place.Committed i (byte s 2) ∷ Place.Posting ∷ Place.Opening ∷ Place.Showing ∷ Place.Asleep i ∷ Place.Waiting ∷ []) (Place.Met i (messageOf (drop outcomeAt s))) h

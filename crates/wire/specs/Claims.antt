@@ -1,12 +1,12 @@
--- To be believed. That a table is read back from its bytes: `reads_back` carries it of any table that is held, and `encode` of every table of the code. `guard_as_bytes` carries a guard's bytes.
+-- To be believed. That a table is read back from its bytes: `reads_back` carries it of any table that is held, and `encode` of every table of the code. `guard_as_bytes` and `nap_as_bytes` carry the bytes of a guard, and of a head and a sleeper.
 use Rattle.alternative.specs.Guards.{mostGuards}
 use Rattle.process.specs.Process.{ifMet}
 use Rattle.rendezvous.specs.Table.{mostProcesses}
 use Rattle.wire.specs.Types.{ℕ, _^_, _<_, _≡_, true, List, [], _∷_, _++_, length, T, Float, binary32, w32, SFits, Message, Action, Guard, Signal}
 use Rattle.wire.specs.Types.{Place, Process, Head, ProcessTable}
 use Rattle.wire.specs.Layout.{tableLength}
-use Rattle.wire.specs.Reading.{guardOf, tableOf}
-use Rattle.wire.specs.Writing.{guardBytes, bytesOf}
+use Rattle.wire.specs.Reading.{guardOf, placeOf, headOf, tableOf}
+use Rattle.wire.specs.Writing.{guardBytes, placeBytes, headBytes, bytesOf}
 use lib.Ieee as ieee
 
 -- a ticket of 32 bits, a signed number of 32 bits, an f32, as the code's types have them
@@ -74,3 +74,16 @@ its = 1 ∷ 7 ∷ 9 ∷ 1 ∷ 0 ∷ 0 ∷ 0 ∷ 0 ∷ 0 ∷ 0 ∷ 0 ∷ 0 ∷ 0 
 
 abbrev pub GuardAsBytes : Type 0
 GuardAsBytes = (guardBytes aGuard ≡ its) × (guardOf its ≡ aGuard)
+
+-- The bytes of one head: 7 processes, naps of 9 steps, the next ticket 3; and of one place: asleep, after 5 steps there. They are read as these.
+abbrev aHead : Head
+aHead = record { n = 7; nap = 9; next = record { 0 = 3 } }
+
+abbrev headsOwn : List ℕ
+headsOwn = 7 ∷ 9 ∷ 3 ∷ 0 ∷ 0 ∷ 0 ∷ []
+
+abbrev aSleepersOwn : List ℕ
+aSleepersOwn = 8 ∷ 5 ∷ 0 ∷ 0 ∷ 0 ∷ 0 ∷ 0 ∷ 0 ∷ 0 ∷ 0 ∷ 0 ∷ 0 ∷ []
+
+abbrev pub NapAsBytes : Type 0
+NapAsBytes = (headBytes aHead ≡ headsOwn) × (headOf headsOwn ≡ aHead) × (placeBytes (Place.Asleep 5) ≡ aSleepersOwn) × (placeOf aSleepersOwn ≡ Place.Asleep 5)

@@ -35,7 +35,7 @@ guardLength = actionAt + actionLength
 abbrev pub guardsLength : ℕ
 guardsLength = guardLength * mostGuards
 
--- a place: the variant, the index, the kept index, the outcome's message
+-- a place: the variant, the index or, at S, the steps, the kept index, the outcome's message
 abbrev pub outcomeAt : ℕ
 outcomeAt = 3
 
@@ -74,9 +74,9 @@ altlistAt = guardsAt + guardsLength
 abbrev pub recordLength : ℕ
 recordLength = altlistAt + guardsLength
 
--- a head: the number of processes, the next ticket
+-- a head: the number of processes, the length of a nap, the next ticket
 abbrev pub nextAt : ℕ
-nextAt = 1
+nextAt = 2
 
 abbrev pub headLength : ℕ
 headLength = nextAt + wordLength
@@ -91,5 +91,5 @@ tableLength = headLength + recordsLength
 -- how long a message, a guard, a record, a head and a table are, and where in a record the signal, the ticket, accepting, the own and the posted guards stand: the numbers of docs/BYTES.md
 abbrev pub Lengths : Type 0
 Lengths =
-    (messageLength ≡ 9) × (guardLength ≡ 13) × (recordLength ≡ 238) × (headLength ≡ 5) × (tableLength ≡ 7621) ×
+    (messageLength ≡ 9) × (guardLength ≡ 13) × (recordLength ≡ 238) × (headLength ≡ 6) × (tableLength ≡ 7622) ×
     (signalAt ≡ 12) × (ticketAt ≡ 23) × (acceptingAt ≡ 27) × (guardsAt ≡ 30) × (altlistAt ≡ 134)

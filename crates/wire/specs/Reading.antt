@@ -30,7 +30,7 @@ guardOf bytes = record { enabled = not (eqb (byte bytes 0) 0); partner = byte by
 unfoldable pub placeOf : List ℕ → Place
 placeOf bytes =
     let i = byte bytes 1 in
-    getD (Place.Idle ∷ Place.Entering ∷ Place.Scanning i ∷ Place.Trying i ∷ Place.Committed i (byte bytes 2) ∷ Place.Posting ∷ Place.Opening ∷ Place.Showing ∷ Place.Asleep ∷ Place.Waiting ∷ []) (byte bytes 0) (Place.Met i (messageOf (drop outcomeAt bytes)))
+    getD (Place.Idle ∷ Place.Entering ∷ Place.Scanning i ∷ Place.Trying i ∷ Place.Committed i (byte bytes 2) ∷ Place.Posting ∷ Place.Opening ∷ Place.Showing ∷ Place.Asleep i ∷ Place.Waiting ∷ []) (byte bytes 0) (Place.Met i (messageOf (drop outcomeAt bytes)))
 
 unfoldable pub signalOf : List ℕ → Signal
 signalOf bytes = getD (Signal.Absent ∷ []) (byte bytes 0) (Signal.Present (byte bytes 1) (messageOf (drop signalledAt bytes)))
@@ -60,7 +60,7 @@ processOf bytes = record {
 }
 
 unfoldable pub headOf : List ℕ → Head
-headOf bytes = record { n = byte bytes 0; next = record { 0 = wordOf (drop nextAt bytes) } }
+headOf bytes = record { n = byte bytes 0; nap = byte bytes 1; next = record { 0 = wordOf (drop nextAt bytes) } }
 
 unfoldable pub tableOf : List ℕ → ProcessTable
 tableOf bytes = record { head = headOf bytes; processes = eachOf processOf recordLength mostProcesses (drop headLength bytes) }

@@ -23,7 +23,7 @@ actionBytes (Action.Send m) = 1 ∷ messageBytes m
 unfoldable pub guardBytes : Guard → List ℕ
 guardBytes g = flag (g .enabled) ∷ g .partner ∷ g .kind ∷ actionBytes (g .action)
 
--- the variant, the index, the kept index and the message, 0 or nothing where a place has none
+-- the variant, the index or, at S, the steps, the kept index and the message, 0 or nothing where a place has none
 unfoldable pub placeBytes : Place → List ℕ
 placeBytes Place.Idle = 0 ∷ 0 ∷ 0 ∷ messageBytes Message.Nothing
 placeBytes Place.Entering = 1 ∷ 0 ∷ 0 ∷ messageBytes Message.Nothing
@@ -33,7 +33,7 @@ placeBytes (Place.Committed i kept) = 4 ∷ i ∷ kept ∷ messageBytes Message.
 placeBytes Place.Posting = 5 ∷ 0 ∷ 0 ∷ messageBytes Message.Nothing
 placeBytes Place.Opening = 6 ∷ 0 ∷ 0 ∷ messageBytes Message.Nothing
 placeBytes Place.Showing = 7 ∷ 0 ∷ 0 ∷ messageBytes Message.Nothing
-placeBytes Place.Asleep = 8 ∷ 0 ∷ 0 ∷ messageBytes Message.Nothing
+placeBytes (Place.Asleep steps) = 8 ∷ steps ∷ 0 ∷ messageBytes Message.Nothing
 placeBytes Place.Waiting = 9 ∷ 0 ∷ 0 ∷ messageBytes Message.Nothing
 placeBytes (Place.Met i m) = 10 ∷ i ∷ 0 ∷ messageBytes m
 
@@ -64,7 +64,7 @@ unfoldable pub processBytes : Process → List ℕ
 processBytes x = flatten (processParts x)
 
 unfoldable pub headBytes : Head → List ℕ
-headBytes h = h .n ∷ wordBytes (h .next .0)
+headBytes h = h .n ∷ h .nap ∷ wordBytes (h .next .0)
 
 unfoldable pub bytesOf : ProcessTable → List ℕ
 bytesOf t = headBytes (t .head) ++ eachBytes processBytes (t .processes)

@@ -24,7 +24,7 @@ pub const SLOTS: usize = 8;
 
 pub const GUARDS_BYTES: usize = SLOTS * GUARD_BYTES;
 
-// A place: its variant, the index, the kept index, the outcome's message.
+// A place: its variant, the index or, at S, the steps, the kept index, the outcome's message.
 pub const OUTCOME_AT: usize = 3;
 
 pub const PLACE_BYTES: usize = OUTCOME_AT + MESSAGE_BYTES;
@@ -51,8 +51,8 @@ pub const ALTLIST_AT: usize = GUARDS_AT + GUARDS_BYTES;
 
 pub const RECORD_BYTES: usize = ALTLIST_AT + GUARDS_BYTES;
 
-// A head: the number of processes, the next ticket.
-pub const NEXT_AT: usize = 1;
+// A head: the number of processes, the length of a nap, the next ticket.
+pub const NEXT_AT: usize = 2;
 
 pub const HEAD_BYTES: usize = NEXT_AT + WORD_BYTES;
 

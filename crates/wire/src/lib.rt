@@ -7,7 +7,7 @@ ghost use lib.ListN.{length};
 ghost use Rattle.wire.specs.Reading.{tableOf};
 ghost use Rattle.wire.specs.Layout.{Lengths, tableLength};
 ghost use Rattle.wire.specs.Writing.{bytesOf, onto};
-ghost use Rattle.wire.specs.Claims.{Faithful, ReadsBack, GuardAsBytes};
+ghost use Rattle.wire.specs.Claims.{Faithful, ReadsBack, GuardAsBytes, NapAsBytes};
 
 mod bytes;
 mod layout;
@@ -83,4 +83,9 @@ pub fn reads_back()
 // Carries the bytes of one guard, in their order.
 pub fn guard_as_bytes()
     ensures { λ _. ⌜ GuardAsBytes ⌝ }
+{}
+
+// Carries the bytes of one head and of one sleeper, in their order.
+pub fn nap_as_bytes()
+    ensures { λ _. ⌜ NapAsBytes ⌝ }
 {}

@@ -69,7 +69,7 @@ fn place_of(bytes: &[u8]) -> Place
         5 => Place::Posting,
         6 => Place::Opening,
         7 => Place::Showing,
-        8 => Place::Asleep,
+        8 => Place::Asleep(i),
         9 => Place::Waiting,
         _ => Place::Met(i, message_of(from(bytes, layout::OUTCOME_AT))),
     }
@@ -139,6 +139,7 @@ pub fn head_of(bytes: &[u8]) -> Head
     let next = TransactionId(word_of(from(bytes, layout::NEXT_AT)));
     Head {
         n: byte_at(bytes, 0),
+        nap: byte_at(bytes, 1),
         next: next,
     }
 }

@@ -71,7 +71,7 @@ fn guard_bytes(g: Guard) -> [u8; layout::GUARD_BYTES]
     }
 }
 
-// A place: its variant, two indices, its message.
+// A place: its variant, its index or its steps, the kept index, its message.
 fn three_and_message(a: u8, b: u8, c: u8, m: Message) -> [u8; layout::PLACE_BYTES]
     ensures { λ r. ⌜ r ≡ a ∷ b ∷ c ∷ messageBytes m ⌝ }
 {
@@ -93,7 +93,7 @@ fn place_bytes(place: Place) -> [u8; layout::PLACE_BYTES]
         Place::Posting => three_and_message(5, 0, 0, Message::Nothing),
         Place::Opening => three_and_message(6, 0, 0, Message::Nothing),
         Place::Showing => three_and_message(7, 0, 0, Message::Nothing),
-        Place::Asleep => three_and_message(8, 0, 0, Message::Nothing),
+        Place::Asleep(steps) => three_and_message(8, steps, 0, Message::Nothing),
         Place::Waiting => three_and_message(9, 0, 0, Message::Nothing),
         Place::Met(i, m) => three_and_message(10, i, 0, m),
     }
@@ -161,5 +161,5 @@ pub fn head_bytes(h: Head) -> [u8; layout::HEAD_BYTES]
 {
     let next = h.next;
     let word = word_bytes(next.0);
-    [h.n, word[0], word[1], word[2], word[3]]
+    [h.n, h.nap, word[0], word[1], word[2], word[3]]
 }

@@ -1,6 +1,6 @@
 //! The model's desk by value: each call takes it and hands it back.
 
-use crate::plan::{given_up, moved, Call, Plan, Setting, MEETING, NEXT_TICKET, REFUSED};
+use crate::plan::{given_up, moved, Call, Plan, Setting, MEETING, NAP, NEXT_TICKET, REFUSED};
 use model::by_value::{Desk, Guard, GuardList, IndexedMessage, Party, Place};
 use model::by_value::{MOST_GUARDS, MOST_PARTIES};
 use model::{Action, Message, Ticket};
@@ -72,7 +72,7 @@ fn start(plan: Plan, at: Setting) -> Desk {
         place: Place::Waiting,
         ..Party::FRESH
     };
-    let mut desk = Desk::new(at.n).expect("2 to 32 parties are made");
+    let mut desk = Desk::new(at.n, NAP).expect("2 to 32 parties are made");
     desk.next_ticket = Ticket(NEXT_TICKET);
     desk.parties = [waiter; MOST_PARTIES];
     desk.parties[0] = starter(plan, 0);

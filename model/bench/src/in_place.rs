@@ -1,6 +1,6 @@
 //! The model's desk that is changed in place.
 
-use crate::plan::{given_up, moved, Call, Plan, Setting, MEETING, NEXT_TICKET, REFUSED};
+use crate::plan::{given_up, moved, Call, Plan, Setting, MEETING, NAP, NEXT_TICKET, REFUSED};
 use model::{Action, Desk, Guard, IndexedMessage, Message, Party, Place, Ticket};
 
 pub fn run(plan: Plan, at: Setting, calls: u64) -> u64 {
@@ -60,7 +60,7 @@ fn start(plan: Plan, at: Setting) -> Desk {
         place: Place::Waiting,
         ..Party::fresh()
     };
-    let mut desk = Desk::new(usize::from(at.n)).expect("2 to 32 parties are made");
+    let mut desk = Desk::new(usize::from(at.n), NAP).expect("2 to 32 parties are made");
     desk.next_ticket = Ticket(NEXT_TICKET);
     desk.parties = vec![waiter; usize::from(at.n)];
     desk.parties[0] = starter(plan, 0);

@@ -32,6 +32,9 @@ pub const MEETING: u8 = 14;
 /// The next ticket of every desk that a plan starts from: no less than the offers that are open in it, as crates/meter has it.
 pub const NEXT_TICKET: u32 = MOST_PARTIES as u32;
 
+/// The nap length of every desk: every second step of `Plan::Step` ends a nap.
+pub const NAP: u8 = 1;
+
 impl Plan {
     pub const ALL: [Plan; 7] = [
         Plan::Step,

@@ -1,5 +1,6 @@
 //! A step by way of bytes, as a program in another language calls it.
 
+use crate::plan::NAP;
 use crate::rendezvous::{self, ANSWER_BYTES, TABLE_BYTES};
 use std::hint::black_box;
 use std::time::Instant;
@@ -18,7 +19,7 @@ pub fn print(sizes: &[u8]) {
 fn step(n: u8) -> f64 {
     let (mut table, mut after, mut answer) =
         ([0; TABLE_BYTES], [0; TABLE_BYTES], [0; ANSWER_BYTES]);
-    assert!(rendezvous::create(n, &mut table, &mut answer));
+    assert!(rendezvous::create(n, NAP, &mut table, &mut answer));
     let mut least = f64::MAX;
     for _ in 0..RUNS {
         let begun = Instant::now();

@@ -2,6 +2,7 @@
 //! or wild.
 
 use crate::draw::{self, list, message};
+use crate::library::Start;
 use crate::random::Random;
 use crate::rendezvous::{GUARDS, PROCESSES};
 use crate::wire::BLANK;
@@ -27,9 +28,11 @@ pub enum Point {
     IndexInSignal,
     IndexInOutcome,
     KeptIndex,
+    NoNap,
+    Overslept,
 }
 
-pub const POINTS: [Point; 13] = [
+pub const POINTS: [Point; 15] = [
     Point::PartyCount,
     Point::OwnCount,
     Point::PostedCount,
@@ -43,21 +46,25 @@ pub const POINTS: [Point; 13] = [
     Point::IndexInSignal,
     Point::IndexInOutcome,
     Point::KeptIndex,
+    Point::NoNap,
+    Point::Overslept,
 ];
 
-/// A desk in form with any places, lists, signals, wake counts and tickets.
+/// A desk in form with any nap, places, lists, signals, wake counts and tickets.
 /// Records that are no party's hold anything at all.
 pub fn odd_desk(random: &mut Random) -> Desk {
     let n = match random.below(4) {
         0 => 2 + random.below(31),
         _ => 2 + random.below(3),
     };
-    let mut parties: Vec<Party> = (0..n).map(|party| odd_party(random, party, n)).collect();
+    let nap = draw::nap(random);
+    let parties = (0..n).map(|party| odd_party(random, party, Start { n, nap }));
+    let mut parties: Vec<Party> = parties.collect();
     answer_some(random, &mut parties);
     commit_some(random, &mut parties);
     while parties.len() < PROCESSES {
         parties.push(match random.one_in(3) {
-            true => any_party(random),
+            true => any_party(random, nap),
             false => Party::fresh(),
         });
     }
@@ -68,16 +75,19 @@ pub fn odd_desk(random: &mut Random) -> Desk {
     });
     Desk {
         n,
+        nap,
         next_ticket,
         parties,
     }
 }
 
-fn odd_party(random: &mut Random, party: usize, n: usize) -> Party {
+fn odd_party(random: &mut Random, party: usize, desk: Start) -> Party {
+    let Start { n, nap } = desk;
     let guards = list(random, party, n, NAN_IN);
+    let steps = steps_within(random, nap);
     let place = match guards.len() {
-        0 => place_without_index(random),
-        count => odd_place(random, count),
+        0 => place_without_index(random, steps),
+        count => odd_place(random, count, steps),
     };
     let signal = if guards.is_empty() || random.one_in(2) {
         None
@@ -122,24 +132,63 @@ fn indexed(random: &mut Random, count: usize) -> IndexedMessage {
     }
 }
 
-fn place_without_index(random: &mut Random) -> Place {
+/// A place with neither index nor outcome; a sleeper has made so many steps.
+fn place_without_index(random: &mut Random, steps: u8) -> Place {
     random.pick(&[
         Place::Idle,
         Place::Entering,
         Place::Posting,
         Place::Opening,
         Place::Showing,
-        Place::Asleep,
+        Place::Asleep(steps),
         Place::Waiting,
     ])
 }
 
-fn odd_place(random: &mut Random, count: usize) -> Place {
+fn odd_place(random: &mut Random, count: usize, steps: u8) -> Place {
     match random.below(10) {
         0..=2 => Place::Scanning(random.below(count)),
         3..=4 => Place::Trying(random.below(count)),
         5 => Place::Met(indexed(random, count)),
-        _ => place_without_index(random),
+        _ => place_without_index(random, steps),
+    }
+}
+
+/// Steps that a sleeper can have made in such a nap, at either end of it or in
+/// between.
+fn steps_within(random: &mut Random, nap: u8) -> u8 {
+    match random.below(3) {
+        0 => 0,
+        1 => nap - 1,
+        _ => random.below(usize::from(nap)) as u8,
+    }
+}
+
+/// Steps that no sleeper has made in such a nap, mostly one too many.
+fn steps_past(random: &mut Random, nap: u8) -> u8 {
+    match random.below(5) {
+        0 => nap.saturating_add(1),
+        1 => u8::MAX,
+        2 => random.byte().max(nap),
+        _ => nap,
+    }
+}
+
+/// Any steps, on both sides of the end of such a nap.
+fn any_steps(random: &mut Random, nap: u8) -> u8 {
+    match random.below(4) {
+        0 => random.byte(),
+        1 => random.pick(&[0, nap.saturating_sub(1)]),
+        _ => steps_past(random, nap),
+    }
+}
+
+/// Any nap length, often none at all.
+fn any_nap(random: &mut Random) -> u8 {
+    match random.below(4) {
+        0 => 0,
+        1 => random.byte(),
+        _ => draw::nap(random),
     }
 }
 
@@ -197,6 +246,14 @@ pub fn spoil(random: &mut Random, desk: &mut Desk, point: Point) -> bool {
             true
         }
         Point::KeptIndex => misplace_kept(random, desk, party),
+        Point::NoNap => {
+            forget_nap(desk);
+            true
+        }
+        Point::Overslept => {
+            desk.parties[party].place = Place::Asleep(steps_past(random, desk.nap));
+            true
+        }
         Point::OwnNamesItself => misname(random, &mut desk.parties[party].guards, party),
         Point::OwnNamesNobody => misname(random, &mut desk.parties[party].guards, beyond),
         Point::PostedNamesItself => misname(random, &mut desk.parties[party].posted, party),
@@ -204,6 +261,17 @@ pub fn spoil(random: &mut Random, desk: &mut Desk, point: Point) -> bool {
         _ => {
             spoil_record(random, &mut desk.parties[party], point);
             true
+        }
+    }
+}
+
+/// Leaves a desk without a nap length. A sleeper would be out of form as well, so
+/// that none is left.
+fn forget_nap(desk: &mut Desk) {
+    desk.nap = 0;
+    for record in desk.parties.iter_mut().take(desk.n) {
+        if matches!(record.place, Place::Asleep(_)) {
+            record.place = Place::Entering;
         }
     }
 }
@@ -261,17 +329,19 @@ fn misplace_kept(random: &mut Random, desk: &mut Desk, party: usize) -> bool {
 
 /// A desk of any shape, mostly out of form.
 pub fn any_desk(random: &mut Random) -> Desk {
+    let nap = any_nap(random);
     Desk {
         n: match random.below(3) {
             0 => usize::from(random.byte()),
             _ => random.below(34),
         },
+        nap,
         next_ticket: Ticket(random.bits()),
-        parties: (0..PROCESSES).map(|_| any_party(random)).collect(),
+        parties: (0..PROCESSES).map(|_| any_party(random, nap)).collect(),
     }
 }
 
-fn any_party(random: &mut Random) -> Party {
+fn any_party(random: &mut Random, nap: u8) -> Party {
     let index = random.below(10);
     let indexed = IndexedMessage {
         index,
@@ -284,6 +354,7 @@ fn any_party(random: &mut Random) -> Party {
         Place::Committed { own: index, kept },
         Place::Met(indexed),
     ]);
+    let steps = any_steps(random, nap);
     Party {
         guards: any_list(random),
         ticket: Ticket(random.bits()),
@@ -292,7 +363,7 @@ fn any_party(random: &mut Random) -> Party {
         signal: random.one_in(2).then_some(indexed),
         place: match random.one_in(2) {
             true => with_index,
-            false => place_without_index(random),
+            false => place_without_index(random, steps),
         },
     }
 }
@@ -308,7 +379,8 @@ fn any_list(random: &mut Random) -> Vec<Guard> {
 /// A desk that some calls reach, with one value changed afterwards.
 pub fn changed_desk(random: &mut Random) -> Desk {
     let n = 2 + random.below(4);
-    let mut desk = Desk::new(n).expect("2 to 5 parties");
+    let nap = draw::nap(random);
+    let mut desk = Start { n, nap }.desk();
     for _ in 0..random.below(60) {
         let party = random.below(n);
         let call = match random.below(16) {
@@ -319,16 +391,25 @@ pub fn changed_desk(random: &mut Random) -> Desk {
         // A refused call is as good as another here.
         let _ = call.on(&mut desk);
     }
-    let party = random.below(n);
-    change_one_value(random, &mut desk.parties[party]);
+    change_one_value(random, &mut desk);
     desk.parties.resize(PROCESSES, Party::fresh());
     desk
 }
 
-fn change_one_value(random: &mut Random, record: &mut Party) {
+fn change_one_value(random: &mut Random, desk: &mut Desk) {
+    let (party, nap) = (random.below(desk.n), desk.nap);
+    match random.below(10) {
+        0 => desk.nap = any_nap(random),
+        1 => desk.parties[party].place = Place::Asleep(any_steps(random, nap)),
+        _ => change_record(random, &mut desk.parties[party], nap),
+    }
+}
+
+fn change_record(random: &mut Random, record: &mut Party, nap: u8) {
     let count = record.guards.len().max(1);
+    let steps = steps_within(random, nap);
     match random.below(8) {
-        0 => record.place = odd_place(random, count),
+        0 => record.place = odd_place(random, count, steps),
         1 => record.wake_count ^= 1,
         2 => record.signal = Some(indexed(random, count)),
         3 => record.signal = None,

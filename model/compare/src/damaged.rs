@@ -46,14 +46,16 @@ pub fn run(library: &dyn Library, budget: Budget) -> Verdict {
     }
 }
 
-/// Every number of processes: a fresh table, or 1.
+/// Every number of processes with every nap length: a fresh table, 1 or 15.
 fn creations(library: &dyn Library, tally: &mut Tally) -> Result<(), String> {
-    for n in 0..=255 {
-        let given = library.create(n);
-        let expected = Desk::new(usize::from(n)).map_err(model::Refusal::number);
+    for (n, nap) in (0..=255).flat_map(|n| (0..=255).map(move |nap| (n, nap))) {
+        let given = library.create(n, nap);
+        let expected = Desk::new(usize::from(n), nap).map_err(model::Refusal::number);
         let expected = expected.map(|desk| encode(&desk));
         if given != expected {
-            return Err(format!("n {n}: the fresh tables or the refusals differ"));
+            return Err(format!(
+                "n {n} {nap}: the fresh tables or the refusals differ"
+            ));
         }
         if let Err(number) = given {
             tally.refused(number);
@@ -112,7 +114,7 @@ impl Tables<'_> {
                 return Err(told(&format!("{point:?} is not refused by 7")));
             }
             self.tally.note(&desk, &call, &reply);
-            self.tally.out_of_form(point);
+            self.tally.out_of_form(&desk, point);
         }
         Ok(())
     }
@@ -161,7 +163,8 @@ fn told(library: &dyn Library, table: &Table, call: &Call, text: &str) -> String
 
 /// A desk in a few lines: what differs from a fresh one.
 fn show(desk: &Desk) -> String {
-    let mut text = format!("n {}, next ticket {}\n", desk.n, desk.next_ticket.0);
+    let (n, nap, next) = (desk.n, desk.nap, desk.next_ticket.0);
+    let mut text = format!("n {n}, nap {nap}, next ticket {next}\n");
     for (party, record) in desk.parties.iter().enumerate() {
         if *record != model::Party::fresh() {
             text.push_str(&format!("record {party}: {record:?}\n"));
@@ -173,7 +176,7 @@ fn show(desk: &Desk) -> String {
 #[cfg(test)]
 mod tests {
     use super::*;
-    use crate::erring::{Erring, KindBlind, ERRORS};
+    use crate::erring::{Erring, KindBlind, OtherNap, ERRORS, NAP_ERRORS};
     use std::time::Duration;
 
     fn found(library: &dyn Library) -> String {
@@ -187,6 +190,15 @@ mod tests {
         for (right, wrong) in ERRORS {
             let text = found(&Erring { right, wrong });
             assert!(text.contains("\ncall: w "), "{text}");
+        }
+    }
+
+    #[test]
+    fn errors_in_naps_are_found_and_told_by_one_call_in_a_short_nap() {
+        for error in NAP_ERRORS {
+            let text = found(&OtherNap(error));
+            let short = ["nap 1,", "nap 2,"].iter().any(|nap| text.contains(nap));
+            assert!(short && text.contains("Asleep("), "{text}");
         }
     }
 

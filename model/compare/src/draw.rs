@@ -33,6 +33,9 @@ const EDGES: [u32; 9] = [
 /// Kinds at the edges of a byte and of its top bit.
 const KINDS: [u8; 6] = [0, 1, 127, 128, 254, 255];
 
+/// The longest nap.
+pub const LONGEST_NAP: u8 = 255;
+
 /// No float of a message is a NaN.
 const NEVER: usize = usize::MAX;
 
@@ -96,6 +99,16 @@ fn kind(random: &mut Random, party: usize, partner: usize, n: usize) -> u8 {
         2 => common ^ 0x80,
         3 => random.byte(),
         _ => common,
+    }
+}
+
+/// A nap length: often 1, mostly short, and now and then the longest or any.
+pub fn nap(random: &mut Random) -> u8 {
+    match random.below(16) {
+        0 => LONGEST_NAP,
+        1 => random.byte().max(1),
+        2..=6 => 1,
+        _ => 2 + random.below(3) as u8,
     }
 }
 

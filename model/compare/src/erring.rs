@@ -1,7 +1,8 @@
-//! Libraries that err, in withdrawals or in kinds, to try whether the parts find
-//! it.
+//! Libraries that err, in withdrawals, in kinds or in naps, to try whether the parts
+//! find it.
 
 use crate::library::{in_model, Library, Modelled, Reply};
+use crate::rendezvous::HEAD_NAP;
 use crate::wire::{decode, encode, Table};
 use model::{Call, Given, Place, Withdrawal};
 
@@ -27,8 +28,8 @@ pub struct Erring {
 }
 
 impl Library for Erring {
-    fn create(&self, n: u8) -> Result<Table, u8> {
-        Modelled.create(n)
+    fn create(&self, n: u8, nap: u8) -> Result<Table, u8> {
+        Modelled.create(n, nap)
     }
 
     fn call(&self, table: &Table, call: &Call) -> Reply {
@@ -53,8 +54,8 @@ fn put_to_idle(table: &Table, party: usize) -> Table {
 pub struct KindBlind;
 
 impl Library for KindBlind {
-    fn create(&self, n: u8) -> Result<Table, u8> {
-        Modelled.create(n)
+    fn create(&self, n: u8, nap: u8) -> Result<Table, u8> {
+        Modelled.create(n, nap)
     }
 
     fn call(&self, table: &Table, call: &Call) -> Reply {
@@ -75,5 +76,31 @@ impl Library for KindBlind {
             }
             _ => Modelled.call(table, call),
         }
+    }
+}
+
+/// What an erring library takes a nap length for: one step less, one more, and 1
+/// whatever it is.
+pub const NAP_ERRORS: [fn(u8) -> u8; 3] = [
+    |nap| nap.saturating_sub(1).max(1),
+    |nap| nap.saturating_add(1),
+    |_| 1,
+];
+
+/// The model, but it takes a nap length for another one.
+pub struct OtherNap(pub fn(u8) -> u8);
+
+impl Library for OtherNap {
+    fn create(&self, n: u8, nap: u8) -> Result<Table, u8> {
+        Modelled.create(n, nap)
+    }
+
+    fn call(&self, table: &Table, call: &Call) -> Reply {
+        let nap = table.bytes()[HEAD_NAP];
+        let mut other = table.clone();
+        other.bytes_mut()[HEAD_NAP] = self.0(nap);
+        let mut reply = Modelled.call(&other, call);
+        reply.table.bytes_mut()[HEAD_NAP] = nap;
+        reply
     }
 }

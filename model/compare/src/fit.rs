@@ -112,13 +112,14 @@ impl ByKinds {
 #[cfg(test)]
 mod tests {
     use super::*;
+    use crate::library::Start;
     use crate::plans::guard;
     use model::Ticket;
 
     /// Process 0 tries with a sending guard of kind 7; process 1 has posted
     /// receiving guards of these kinds.
     fn searched(kinds: &[u8], wake_count: u8) -> Option<Search> {
-        let mut desk = Desk::new(2).expect("two is a good number");
+        let mut desk = Start { n: 2, nap: 1 }.desk();
         let of_kind = |guard, kind| Guard { kind, ..guard };
         desk.parties[0].guards = vec![of_kind(guard(1, true, true), 7)];
         desk.parties[0].place = Place::Trying(0);

@@ -2,12 +2,15 @@
 //! by side, with every clause of demand 3 checked after every call.
 
 use crate::fit::{fit, none_match};
-use crate::library::{both, fresh, line, Library, Reply};
+use crate::library::{both, line, Library, Reply, Start};
 use crate::reduce::{smallest, with_plain_kinds};
 use crate::wire::{encode, Table};
 use model::{Answer, Book, Call, Desk, Entry, Given, Meeting, OpenOffer, Ticket};
 use model::{Moment, Told, Withdrawal};
 use std::collections::BTreeSet;
+
+/// The naps that a failing run is tried with, the shortest first.
+const SHORT_NAPS: [u8; 6] = [1, 2, 3, 4, 8, 32];
 
 #[derive(Clone)]
 pub struct Follow {
@@ -20,9 +23,9 @@ pub struct Follow {
 }
 
 impl Follow {
-    pub fn new(library: &dyn Library, n: usize) -> Result<Follow, String> {
-        let desk = Desk::new(n).expect("2 to 32 parties");
-        let table = fresh(library, n)?;
+    pub fn new(library: &dyn Library, start: Start) -> Result<Follow, String> {
+        let desk = start.desk();
+        let table = start.table(library)?;
         match table.first_difference(&encode(&desk)) {
             Some(place) => Err(format!("the fresh tables differ at {place}")),
             None => Ok(Follow {
@@ -208,15 +211,18 @@ fn to_book(answer: &Result<Given, u8>) -> Told {
 }
 
 /// The complaint, with the shortest list of calls that still brings a complaint.
-pub fn told(library: &dyn Library, n: usize, calls: &[Call], text: &str) -> String {
-    if replay(library, n, calls).is_ok() {
+pub fn told(library: &dyn Library, start: Start, calls: &[Call], text: &str) -> String {
+    if replay(library, start, calls).is_ok() {
         return format!("{text}\n(the same calls once more bring no difference)");
     }
-    let fails = |some: &[Call]| replay(library, n, some).is_err();
-    let short = smallest(calls, fails);
-    let short = with_plain_kinds(short, |calls| kinds(calls), |some| fails(some));
-    let again = replay(library, n, &short).err();
-    let mut script = format!("n {n}\n");
+    let fails = |start, some: &[Call]| replay(library, start, some).is_err();
+    let short = smallest(calls, |some| fails(start, some));
+    // Fewer calls bring the same about where a nap is shorter.
+    let start = with_short_nap(start, |start| fails(start, &short));
+    let short = smallest(&short, |some| fails(start, some));
+    let short = with_plain_kinds(short, |calls| kinds(calls), |some| fails(start, some));
+    let again = replay(library, start, &short).err();
+    let mut script = start.line() + "\n";
     for call in &short {
         script.push_str(&line(call));
         script.push('\n');
@@ -237,8 +243,17 @@ fn kinds(calls: &mut [Call]) -> Vec<&mut u8> {
     guards.map(|guard| &mut guard.kind).collect()
 }
 
-fn replay(library: &dyn Library, n: usize, calls: &[Call]) -> Result<(), String> {
-    let mut follow = Follow::new(library, n)?;
+/// The same with the shortest of some naps with which it still fails.
+fn with_short_nap(start: Start, fails: impl Fn(Start) -> bool) -> Start {
+    let mut shorter = SHORT_NAPS
+        .into_iter()
+        .filter(|&nap| nap < start.nap)
+        .map(|nap| Start { nap, ..start });
+    shorter.find(|&start| fails(start)).unwrap_or(start)
+}
+
+fn replay(library: &dyn Library, start: Start, calls: &[Call]) -> Result<(), String> {
+    let mut follow = Follow::new(library, start)?;
     for call in calls {
         let _refused_or_not = follow.call(library, call)?;
     }

@@ -4,9 +4,11 @@
 
 use crate::fit::ByKinds;
 use crate::follow::{told, Follow};
-use crate::library::Library;
+use crate::library::{Library, Start};
+use crate::naps::{Naps, SHOWN_BY_TWO};
 use crate::part::{Budget, Finding, Verdict};
-use crate::plans::{has_kinds, plans, Plan, PAIRS, PAIRS_BY_KIND, TRIPLES};
+use crate::plans::{has_kinds, plans, Plan};
+use crate::plans::{PAIRS, PAIRS_BY_KIND, PAIRS_WITH_NAPS, TRIPLES};
 use crate::wire::put_message;
 use model::{Call, Given, Withdrawal};
 use std::collections::HashSet;
@@ -17,6 +19,7 @@ struct Sums {
     /// The plans that were explored whole, by their sort.
     pairs: u64,
     pairs_by_kind: u64,
+    pairs_with_naps: u64,
     triples: u64,
     longer: u64,
     states: u64,
@@ -26,6 +29,7 @@ struct Sums {
     late: u64,
     rests: u64,
     by_kinds: ByKinds,
+    naps: Naps,
 }
 
 pub fn run(library: &dyn Library, budget: Budget) -> Verdict {
@@ -37,11 +41,9 @@ pub fn run(library: &dyn Library, budget: Budget) -> Verdict {
         }
         explore(library, &plan, end, &mut sums).map_err(|text| Finding::new(budget.seed, text))?;
     }
-    match sums.by_kinds.missed() {
-        Some(text) if sums.pairs_by_kind == PAIRS_BY_KIND as u64 => {
-            Err(Finding::new(budget.seed, text))
-        }
-        _ => Ok(sums.told()),
+    match sums.missed() {
+        Some(text) => Err(Finding::new(budget.seed, text)),
+        None => Ok(sums.told()),
     }
 }
 
@@ -49,10 +51,12 @@ impl Sums {
     fn told(&self) -> String {
         format!(
             "interleavings: every order of {} of {PAIRS} plans for two processes with a withdrawal each, \
-             {} of {PAIRS_BY_KIND} with two kinds and no withdrawal, {} of {TRIPLES} for three and {} with second offers; \
-             {} states, {} calls, {} commits, {} withdrawals, {} too late, {} states at rest; {}",
+             {} of {PAIRS_BY_KIND} with two kinds and no withdrawal, {} of {PAIRS_WITH_NAPS} with naps of two steps, \
+             {} of {TRIPLES} for three and {} with second offers; \
+             {} states, {} calls, {} commits, {} withdrawals, {} too late, {} states at rest; {}; {}",
             self.pairs,
             self.pairs_by_kind,
+            self.pairs_with_naps,
             self.triples,
             self.longer,
             self.states,
@@ -61,18 +65,33 @@ impl Sums {
             self.withdrawn,
             self.late,
             self.rests,
-            self.by_kinds.told()
+            self.by_kinds.told(),
+            self.naps.told()
         )
     }
 
+    /// What kinds never decided and what was never seen of naps, though all plans
+    /// that bring it were explored.
+    fn missed(&self) -> Option<String> {
+        let by_kinds = match self.pairs_by_kind == PAIRS_BY_KIND as u64 {
+            true => self.by_kinds.missed().map(str::to_string),
+            false => None,
+        };
+        match self.pairs_with_naps == PAIRS_WITH_NAPS as u64 {
+            true => by_kinds.or_else(|| self.naps.missed(&SHOWN_BY_TWO)),
+            false => by_kinds,
+        }
+    }
+
     fn plans(&self) -> u64 {
-        self.pairs + self.pairs_by_kind + self.triples + self.longer
+        self.pairs + self.pairs_by_kind + self.pairs_with_naps + self.triples + self.longer
     }
 
     fn note(&mut self, plan: &Plan) {
-        let once = plan.iter().all(|role| role.lists.len() == 1);
-        match (once, plan.len()) {
+        let once = plan.roles.iter().all(|role| role.lists.len() == 1);
+        match (once, plan.roles.len()) {
             (true, 2) if has_kinds(plan) => self.pairs_by_kind += 1,
+            (true, 2) if plan.nap > 1 => self.pairs_with_naps += 1,
             (true, 2) => self.pairs += 1,
             (true, _) => self.triples += 1,
             (false, _) => self.longer += 1,
@@ -99,22 +118,23 @@ fn explore(
     end: Instant,
     sums: &mut Sums,
 ) -> Result<(), String> {
-    let n = plan.len();
-    let start = State {
-        follow: Follow::new(library, n)?,
+    let (n, nap) = (plan.roles.len(), plan.nap);
+    let start = Start { n, nap };
+    let first = State {
+        follow: Follow::new(library, start)?,
         offers_made: vec![0; n],
-        may_withdraw: plan.iter().map(|role| role.withdraws).collect(),
+        may_withdraw: plan.roles.iter().map(|role| role.withdraws).collect(),
         path: 0,
     };
     let mut paths: Paths = vec![None];
-    let mut seen = HashSet::from([key(&start, n)]);
-    let mut to_do = vec![start];
+    let mut seen = HashSet::from([key(&first, n)]);
+    let mut to_do = vec![first];
     while let Some(state) = to_do.pop() {
         sums.states += 1;
         for call in calls(plan, &state) {
             let next = edge(library, &state, &call, sums).map_err(|text| {
                 let calls = path_to(&paths, state.path, call.clone());
-                told(library, n, &calls, &text)
+                told(library, start, &calls, &text)
             })?;
             let Some(mut next) = next else { continue };
             if seen.insert(key(&next, n)) {
@@ -134,7 +154,7 @@ fn explore(
 /// Every call that this state allows, refused ones too.
 fn calls(plan: &Plan, state: &State) -> Vec<Call> {
     let mut calls = vec![Call::Movers];
-    for (party, role) in plan.iter().enumerate() {
+    for (party, role) in plan.roles.iter().enumerate() {
         calls.push(Call::Step { party });
         calls.push(Call::Collect { party });
         if state.may_withdraw[party] {
@@ -162,6 +182,7 @@ fn edge(
         path: state.path,
     };
     sums.by_kinds.note(&state.follow.desk, call);
+    sums.naps.note(&state.follow.desk, call);
     let answer = next.follow.call(library, call)?;
     sums.calls += 1;
     match (answer, call) {
@@ -213,7 +234,7 @@ fn key(state: &State, n: usize) -> Vec<u8> {
 #[cfg(test)]
 mod tests {
     use super::*;
-    use crate::erring::{Erring, ERRORS};
+    use crate::erring::{Erring, OtherNap, ERRORS, NAP_ERRORS};
     use crate::library::Modelled;
     use crate::plans::{guard, Role};
     use model::Guard;
@@ -227,16 +248,21 @@ mod tests {
         sums
     }
 
-    /// Process 0 sends; process 1 sends or receives.
+    /// Process 0 sends; process 1 sends or receives. Naps have one step.
     fn two(other_sends: bool) -> Plan {
         let role = |guard| Role {
             lists: vec![vec![guard]],
             withdraws: true,
         };
-        vec![
+        let roles = vec![
             role(guard(1, true, true)),
             role(guard(0, other_sends, true)),
-        ]
+        ];
+        Plan { nap: 1, roles }
+    }
+
+    fn with_naps(nap: u8) -> Plan {
+        Plan { nap, ..two(false) }
     }
 
     #[test]
@@ -259,12 +285,31 @@ mod tests {
         let end = Instant::now() + Duration::from_secs(600);
         for kinds in [&[1, 0][..], &[1]] {
             let mut plan = two(false);
-            let receiving = plan[1].lists[0][0];
+            let receiving = plan.roles[1].lists[0][0];
             let of_kind = |&kind: &u8| Guard { kind, ..receiving };
-            plan[1].lists = vec![kinds.iter().map(of_kind).collect()];
+            plan.roles[1].lists = vec![kinds.iter().map(of_kind).collect()];
             assert_eq!(explore(&Modelled, &plan, end, &mut sums), Ok(()));
         }
         assert_eq!(sums.by_kinds.missed(), None);
+    }
+
+    #[test]
+    fn naps_of_two_steps_bring_all_that_is_wanted_of_them() {
+        let sums = explored(&with_naps(2));
+        assert_eq!(sums.pairs_with_naps, 1);
+        assert_eq!(sums.naps.missed(&SHOWN_BY_TWO), None);
+        let states = |nap| explored(&with_naps(nap)).states;
+        assert!(states(1) < states(2) && states(2) < states(3));
+    }
+
+    #[test]
+    fn errors_in_naps_are_found() {
+        let end = Instant::now() + Duration::from_secs(600);
+        for error in NAP_ERRORS {
+            let library = OtherNap(error);
+            let found = explore(&library, &with_naps(2), end, &mut Sums::default());
+            assert!(found.is_err_and(|text| text.contains("\ns ")));
+        }
     }
 
     #[test]

@@ -1,8 +1,8 @@
 //! The calls on a table as bytes, whoever answers them, and the
 //! comparison of one call with the model's.
 
-use crate::rendezvous::{RECORD_ACCEPTING, RECORD_COUNTS, RECORD_OWN, RECORD_POSTED};
-use crate::rendezvous::{RECORD_PLACE, RECORD_SIGNAL, RECORD_TICKET};
+use crate::rendezvous::{RECORD_ACCEPTING, RECORD_COUNTS, RECORD_INDEX, RECORD_OWN};
+use crate::rendezvous::{RECORD_PLACE, RECORD_POSTED, RECORD_SIGNAL, RECORD_TICKET};
 use crate::wire::{decode, encode, normal, one_nan, Table};
 use model::{Action, Call, Desk, Given, Guard, Outcome, Refusal, Withdrawal};
 
@@ -14,22 +14,43 @@ pub struct Reply {
 }
 
 pub trait Library: Sync {
-    fn create(&self, n: u8) -> Result<Table, u8>;
+    fn create(&self, n: u8, nap: u8) -> Result<Table, u8>;
     fn call(&self, table: &Table, call: &Call) -> Reply;
 }
 
-/// A fresh table of `n` processes, 2 to 32 of them.
-pub fn fresh(library: &dyn Library, n: usize) -> Result<Table, String> {
-    let made = library.create(n as u8);
-    made.map_err(|number| format!("a table of {n} is refused by {number}"))
+/// What a run starts from: a fresh table of 2 to 32 processes, in which a nap is
+/// so many own steps long, 1 to 255.
+#[derive(Clone, Copy, Debug, PartialEq, Eq)]
+pub struct Start {
+    pub n: usize,
+    pub nap: u8,
+}
+
+impl Start {
+    pub fn desk(self) -> Desk {
+        Desk::new(self.n, self.nap).expect("2 to 32 parties and a nap of at least one step")
+    }
+
+    pub fn table(self, library: &dyn Library) -> Result<Table, String> {
+        let made = library.create(self.n as u8, self.nap);
+        made.map_err(|number| format!("`{}` is refused by {number}", self.line()))
+    }
+
+    /// As a script writes it, with a nap of one step left out.
+    pub fn line(self) -> String {
+        match self.nap {
+            1 => format!("n {}", self.n),
+            nap => format!("n {} {nap}", self.n),
+        }
+    }
 }
 
 /// The model behind bytes, to try the comparison on itself.
 pub struct Modelled;
 
 impl Library for Modelled {
-    fn create(&self, n: u8) -> Result<Table, u8> {
-        let desk = Desk::new(usize::from(n)).map_err(Refusal::number)?;
+    fn create(&self, n: u8, nap: u8) -> Result<Table, u8> {
+        let desk = Desk::new(usize::from(n), nap).map_err(Refusal::number)?;
         Ok(encode(&desk))
     }
 
@@ -106,8 +127,9 @@ fn same(given: &Table, expected: &Table) -> Result<(), String> {
         None => Ok(()),
         Some(place) => Err(format!(
             "the table given back is not the model's: {place} (in a record: place {RECORD_PLACE}, \
-             signal {RECORD_SIGNAL}, ticket {RECORD_TICKET}, accepting {RECORD_ACCEPTING}, counts \
-             {RECORD_COUNTS}, own list {RECORD_OWN}, posted list {RECORD_POSTED})"
+             index or steps at S {RECORD_INDEX}, signal {RECORD_SIGNAL}, ticket {RECORD_TICKET}, \
+             accepting {RECORD_ACCEPTING}, counts {RECORD_COUNTS}, own list {RECORD_OWN}, posted \
+             list {RECORD_POSTED})"
         )),
     }
 }

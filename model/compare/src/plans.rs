@@ -1,5 +1,6 @@
-//! Which lists the processes offer, for two and three of them, and who may
-//! withdraw: short lists, each sending guard with a message of its own.
+//! Which lists the processes offer, for two and three of them, who may withdraw,
+//! and how long a nap is: short lists, each sending guard with a message of its own,
+//! and short naps.
 
 use crate::random::Random;
 use model::{Action, Guard, Message};
@@ -7,6 +8,7 @@ use model::{Action, Guard, Message};
 /// How many plans of one offer each there are.
 pub const PAIRS: usize = 14 * 14;
 pub const PAIRS_BY_KIND: usize = 10 * 20 - 6 * 6;
+pub const PAIRS_WITH_NAPS: usize = 6 * 6;
 pub const TRIPLES: usize = 20 * 20 * 20;
 
 /// The lists that a process offers one after the other, and whether it may
@@ -17,22 +19,31 @@ pub struct Role {
     pub withdraws: bool,
 }
 
-/// The role of each process.
-pub type Plan = Vec<Role>;
+/// The length of a nap, and the role of each process.
+#[derive(Clone)]
+pub struct Plan {
+    pub nap: u8,
+    pub roles: Vec<Role>,
+}
 
-/// First every plan for two processes of one offer each, of two kinds, and of kind
-/// 0, where both may withdraw, and of one guard that each offers twice. Then every
-/// plan of one offer each for three, shuffled, some of whom may withdraw, with
-/// drawn kinds, in turn with plans of further offers, which have no end.
+/// First plans for two processes with naps of two steps. Then, with naps of one
+/// step, every plan for two of one offer each, of two kinds, and of kind 0, where
+/// both may withdraw, and of one guard that each offers twice. Then every plan of
+/// one offer each for three, shuffled, some of whom may withdraw, with drawn kinds
+/// and naps, in turn with plans of further offers, which have no end.
 pub fn plans(seed: u64) -> impl Iterator<Item = Plan> {
     let mut random = Random::new(seed);
     let two = [every_pair_by_kind(), every_pair(), every_pair_twice()].concat();
-    let two = two.into_iter().chain(every_pair_twice_by_kind());
+    let two = every_pair_with_naps().into_iter().chain(two);
+    let two = two.chain(every_pair_twice_by_kind());
     let mut three = every_triple();
     random.shuffle(&mut three);
-    for role in three.iter_mut().flatten() {
-        role.withdraws = random.one_in(2);
-        draw_kinds(&mut random, &mut role.lists[0]);
+    for plan in &mut three {
+        plan.nap = draw_nap(&mut random);
+        for role in &mut plan.roles {
+            role.withdraws = random.one_in(2);
+            draw_kinds(&mut random, &mut role.lists[0]);
+        }
     }
     let longer = std::iter::from_fn(move || Some(longer_plan(&mut random)));
     two.chain(alternate(three, longer))
@@ -68,8 +79,8 @@ fn every_pair_by_kind() -> Vec<Plan> {
         lists(&guards.collect::<Vec<_>>())
     });
     let mut plans = pairs(both, 1);
-    plans.retain(|plan| plan[0].lists[0][0].kind == 0 && has_kinds(plan));
-    for role in plans.iter_mut().flatten() {
+    plans.retain(|plan| plan.roles[0].lists[0][0].kind == 0 && has_kinds(plan));
+    for role in plans.iter_mut().flat_map(|plan| &mut plan.roles) {
         role.withdraws = false;
     }
     plans
@@ -85,22 +96,36 @@ fn every_pair_twice() -> Vec<Plan> {
 fn every_pair_twice_by_kind() -> Vec<Plan> {
     let mut plans = Vec::new();
     for plan in every_pair_twice() {
-        if plan[0].lists[0][0].sends() == plan[1].lists[0][0].sends() {
+        let [one, other] = [0, 1].map(|party| plan.roles[party].lists[0][0].sends());
+        if one == other {
             continue;
         }
         for first in [0, 1] {
             let mut plan = plan.clone();
-            plan[0].lists[1][0].kind = 1;
-            plan[1].lists[first][0].kind = 1;
+            plan.roles[0].lists[1][0].kind = 1;
+            plan.roles[1].lists[first][0].kind = 1;
             plans.push(plan);
         }
     }
     plans
 }
 
+/// With naps of two steps: every two lists of enabled guards, and one guard that
+/// each offers twice. No sleeper looks at kinds, and a disabled guard only moves a
+/// process past it, so that neither would bring another nap.
+fn every_pair_with_naps() -> Vec<Plan> {
+    let both = [0, 1].map(|party| lists(&guards(party, 2, false)));
+    let mut plans = pairs(both, 1);
+    plans.extend(every_pair_twice());
+    for plan in &mut plans {
+        plan.nap = 2;
+    }
+    plans
+}
+
 /// Whether a guard of the plan has another kind than 0.
 pub fn has_kinds(plan: &Plan) -> bool {
-    let mut guards = plan.iter().flat_map(|role| role.lists.concat());
+    let mut guards = plan.roles.iter().flat_map(|role| role.lists.concat());
     guards.any(|guard| guard.kind != 0)
 }
 
@@ -109,7 +134,8 @@ fn pairs(both: [Vec<Vec<Guard>>; 2], times: usize) -> Vec<Plan> {
     let mut plans = Vec::new();
     for one in &both[0] {
         for other in &both[1] {
-            plans.push(vec![offered(0, one, times), offered(1, other, times)]);
+            let roles = vec![offered(0, one, times), offered(1, other, times)];
+            plans.push(Plan { nap: 1, roles });
         }
     }
     plans
@@ -124,7 +150,9 @@ fn every_triple() -> Vec<Plan> {
         for two in &all[1] {
             for three in &all[2] {
                 let roles = [one, two, three].into_iter().enumerate();
-                plans.push(roles.map(|(party, list)| offered(party, list, 1)).collect());
+                let roles = roles.map(|(party, list)| offered(party, list, 1));
+                let roles = roles.collect();
+                plans.push(Plan { nap: 1, roles });
             }
         }
     }
@@ -150,7 +178,8 @@ fn longer_plan(random: &mut Random) -> Plan {
     let n = if random.one_in(3) { 3 } else { 2 };
     let twice = random.below(n);
     let both = n == 2 && random.one_in(2);
-    (0..n)
+    let nap = draw_nap(random);
+    let roles = (0..n)
         .map(|party| {
             let choices = lists(&guards(party, n, n == 2));
             let count = if both || party == twice { 2 } else { 1 };
@@ -165,7 +194,14 @@ fn longer_plan(random: &mut Random) -> Plan {
                 withdraws: n == 2 || party == twice,
             }
         })
-        .collect()
+        .collect();
+    Plan { nap, roles }
+}
+
+/// A nap of one step or, as often, of two or three. Longer ones bring more states
+/// within a nap and nothing else.
+fn draw_nap(random: &mut Random) -> u8 {
+    random.pick(&[1, 1, 2, 3])
 }
 
 /// Gives one guard in four kind 1.
@@ -231,6 +267,7 @@ mod tests {
         assert_eq!(every_pair_by_kind().len(), PAIRS_BY_KIND);
         assert_eq!(every_pair_twice().len(), 2 * 2);
         assert_eq!(every_pair_twice_by_kind().len(), 2 * 2);
+        assert_eq!(every_pair_with_naps().len(), PAIRS_WITH_NAPS + 2 * 2);
         assert_eq!(every_triple().len(), TRIPLES);
     }
 }

@@ -12,8 +12,8 @@ use std::ops::Range;
 pub struct Proved;
 
 impl Library for Proved {
-    fn create(&self, n: u8) -> Result<Table, u8> {
-        let (table, said) = into_buffers(|out, answer| rendezvous::create(n, out, answer));
+    fn create(&self, n: u8, nap: u8) -> Result<Table, u8> {
+        let (table, said) = into_buffers(|out, answer| rendezvous::create(n, nap, out, answer));
         match read(&said) {
             Said::Made => Ok(table),
             Said::Refused(number) => Err(number),
@@ -95,39 +95,45 @@ fn read(answer: &[u8; ANSWER_BYTES]) -> Said {
 
 /// True if a byte is not 0 where an answer of its variant says nothing.
 fn has_stray(answer: &[u8; ANSWER_BYTES]) -> bool {
-    let used = used(answer[ANSWER_VARIANT]);
+    let used = used(answer[ANSWER_VARIANT], char::from(answer[ANSWER_FIRST]));
     let mut unused = (ANSWER_FIRST..ANSWER_BYTES).filter(|at| !used.contains(at));
     unused.any(|at| answer[at] != 0)
 }
 
-/// Where an answer of this variant says something past the variant.
-fn used(variant: u8) -> Range<usize> {
+/// Where an answer of this variant, and of this letter if it is one of a place,
+/// says something past the variant.
+fn used(variant: u8, letter: char) -> Range<usize> {
     match variant {
         OFFERED | RUNNABLE => ANSWER_WORD..ANSWER_BYTES,
-        MOVED => ANSWER_FIRST..ANSWER_MESSAGE,
+        MOVED if has_index(letter) => ANSWER_FIRST..ANSWER_MESSAGE,
+        MOVED => ANSWER_FIRST..ANSWER_SECOND,
         COLLECTED => ANSWER_FIRST..ANSWER_WORD,
         REFUSED => ANSWER_FIRST..ANSWER_SECOND,
         _ => 0..0,
     }
 }
 
-/// A place as a step says it: only A, T and C go with an index.
+/// A place as a step says it.
 fn place(letter: char, index: usize) -> Answer {
-    let index = match letter {
-        'A' | 'T' | 'C' => Some(index),
-        _ => None,
-    };
+    let index = has_index(letter).then_some(index);
     Answer { letter, index }
+}
+
+/// Only A, T and C go with an index; the steps made at S are not told.
+fn has_index(letter: char) -> bool {
+    matches!(letter, 'A' | 'T' | 'C')
 }
 
 #[cfg(test)]
 mod tests {
     use super::*;
+    use crate::library::Start;
     use crate::plans::guard;
     use crate::rendezvous::{receives, BEGUN_BYTES, GUARD_KIND, HEAD_BYTES, LIMIT, LINE_BYTES};
-    use crate::rendezvous::{RECORD_OWN, RECORD_PLACE, RECORD_POSTED};
+    use crate::rendezvous::{RECORD_INDEX, RECORD_OWN, RECORD_PLACE, RECORD_POSTED};
     use crate::rendezvous::{SESSION_BEGUN, SESSION_BYTES, SESSION_TABLE, TABLE_BYTES, WORD_BYTES};
-    use model::Message;
+    use crate::wire::encode;
+    use model::{Message, Place};
 
     /// The bytes of an answer; `start` is its variant, first and second.
     fn answer(start: [u8; 3], message: &[u8], word: [u8; WORD_BYTES]) -> [u8; ANSWER_BYTES] {
@@ -183,6 +189,10 @@ mod tests {
             let with_message = answer([variant, 0, 0], &[1], [0; WORD_BYTES]);
             assert!(has_stray(&with_message));
         }
+        for letter in *b"AECHIMOPSTW" {
+            let with_index = answer([MOVED, letter, 1], &[], [0; WORD_BYTES]);
+            assert_eq!(has_stray(&with_index), !b"ATC".contains(&letter));
+        }
     }
 
     #[test]
@@ -220,10 +230,12 @@ mod tests {
 
     #[test]
     fn the_library_answers() {
-        let table = Proved.create(2).expect("two is a good number");
-        assert_eq!(table.bytes()[..HEAD_BYTES], [2, 0, 0, 0, 0]);
+        let table = Proved.create(2, 255).expect("both are good numbers");
+        assert_eq!(table.bytes()[..HEAD_BYTES], [2, 255, 0, 0, 0, 0]);
         assert_eq!(table.bytes()[HEAD_BYTES + RECORD_PLACE], 0);
-        assert_eq!(Proved.create(1), Err(1));
+        for (n, nap, number) in [(1, 1, 1), (1, 0, 1), (2, 0, 15)] {
+            assert_eq!(Proved.create(n, nap), Err(number));
+        }
         let reply = Proved.call(&table, &Call::Step { party: 2 });
         assert_eq!(reply.answer, Err(2));
         assert_eq!(reply.table, table);
@@ -233,8 +245,26 @@ mod tests {
     }
 
     #[test]
+    fn the_library_sleeps_through_every_nap() {
+        for nap in 1..=255 {
+            let mut desk = Start { n: 2, nap }.desk();
+            desk.parties[0].guards = vec![guard(1, false, true)];
+            desk.parties[0].place = Place::Asleep(0);
+            let mut table = encode(&desk);
+            for step in 1..=nap {
+                let reply = Proved.call(&table, &Call::Step { party: 0 });
+                let letter = if step < nap { 'S' } else { 'A' };
+                assert_eq!(reply.answer, Ok(Given::Place(Some(place(letter, 0)))));
+                let count = if step < nap { step } else { 0 };
+                assert_eq!(reply.table.bytes()[HEAD_BYTES + RECORD_INDEX], count);
+                table = reply.table;
+            }
+        }
+    }
+
+    #[test]
     fn the_library_keeps_any_kind() {
-        let table = Proved.create(2).expect("two is a good number");
+        let table = Proved.create(2, 1).expect("both are good numbers");
         for kind in 0..=255 {
             let guards = vec![Guard {
                 kind,
@@ -280,7 +310,7 @@ mod tests {
 
     #[test]
     fn a_call_writes_all_or_nothing() {
-        let table = Proved.create(2).expect("two is a good number");
+        let table = Proved.create(2, 1).expect("both are good numbers");
         for short in [0, 1, TABLE_BYTES - 1] {
             all_or_nothing(table.bytes(), [short, TABLE_BYTES, ANSWER_BYTES]);
             all_or_nothing(table.bytes(), [TABLE_BYTES, short, ANSWER_BYTES]);
@@ -301,7 +331,7 @@ mod tests {
             (0, 0),
         ] {
             let (mut out, mut said) = (vec![0xee; table], vec![0xee; answer]);
-            assert!(!rendezvous::create(2, &mut out, &mut said));
+            assert!(!rendezvous::create(2, 1, &mut out, &mut said));
             assert!(untouched(&out) && untouched(&said));
         }
     }
@@ -342,13 +372,14 @@ mod tests {
     #[test]
     fn a_session_holds_the_begun_line_and_the_table() {
         let (mut session, mut after) = ([0xee; SESSION_BYTES], [0xee; SESSION_BYTES]);
-        let input = [b"n 2\n".as_slice(), &[b'm'; BEGUN_BYTES + 1]].concat();
+        let input = [b"n 2 7\n".as_slice(), &[b'm'; BEGUN_BYTES + 1]].concat();
         let mut out = vec![0xee; input.len() * LINE_BYTES];
         assert!(rendezvous::script_start(&mut session));
         let fed = rendezvous::script_feed(&session, &input, &mut after, &mut out);
         assert_eq!(fed, Some((input.len(), 4)));
+        assert_eq!(after.len(), 7825);
         assert_eq!(after[SESSION_BEGUN..SESSION_TABLE], [b'm'; BEGUN_BYTES]);
-        let table = Proved.create(2).expect("two is a good number");
+        let table = Proved.create(2, 7).expect("both are good numbers");
         assert_eq!(&after[SESSION_TABLE..], table.bytes());
     }
 

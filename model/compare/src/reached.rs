@@ -3,15 +3,22 @@
 use crate::draw;
 use crate::fit::ByKinds;
 use crate::follow::{told, Follow};
-use crate::library::Library;
+use crate::library::{Library, Start};
+use crate::naps::{Naps, SHOWN};
 use crate::pace::Pace;
 use crate::part::{Budget, Finding, Verdict};
 use crate::random::Random;
-use model::{Call, Given, Place, Withdrawal};
+use model::{Call, Desk, Given, Place, Withdrawal};
 use std::collections::BTreeSet;
 
 /// A desk that has not come to rest after so many rounds is a difference.
 const MOST_ROUNDS: usize = 20_000;
+
+/// The nap lengths of one run after the other.
+const NAPS: [u8; 7] = [1, 2, draw::LONGEST_NAP, 1, 3, 1, 4];
+
+/// With more processes than these, the longest naps would take most of the time.
+const MOST_WITH_LONGEST_NAPS: usize = 8;
 
 #[derive(Default)]
 struct Sums {
@@ -25,12 +32,15 @@ struct Sums {
     late: u64,
     rests: u64,
     by_kinds: ByKinds,
+    naps: Naps,
+    /// Naps of processes that made steps within an earlier one.
+    further_naps: u64,
 }
 
 pub fn run(library: &dyn Library, budget: Budget) -> Verdict {
     let mut sums = Sums::default();
     runs(library, budget, &mut sums)?;
-    match sums.by_kinds.missed() {
+    match sums.missed() {
         Some(text) => Err(Finding::new(budget.seed, text)),
         None => Ok(sums.told()),
     }
@@ -38,29 +48,48 @@ pub fn run(library: &dyn Library, budget: Budget) -> Verdict {
 
 fn runs(library: &dyn Library, budget: Budget, sums: &mut Sums) -> Result<(), Finding> {
     for seed in budget.seeds() {
-        // One seed after another goes through every number of processes.
-        let n = 2 + (seed % 31) as usize;
+        let start = start(seed);
         let mut run = Run {
             library,
             random: Random::new(seed),
             pace: Pace::default(),
             sociable: (seed / 31) % 4 != 0,
             calls: Vec::new(),
+            slept: BTreeSet::new(),
             sums,
         };
-        if let Err(text) = run.all(n) {
+        if let Err(text) = run.all(start) {
             let calls = run.calls;
-            return Err(Finding::new(seed, told(library, n, &calls, &text)));
+            return Err(Finding::new(seed, told(library, start, &calls, &text)));
         }
     }
     Ok(())
 }
 
+/// One seed after another goes through every number of processes, and through the
+/// nap lengths.
+fn start(seed: u64) -> Start {
+    let n = 2 + (seed % 31) as usize;
+    let nap = NAPS[(seed % NAPS.len() as u64) as usize];
+    match n > MOST_WITH_LONGEST_NAPS && nap == draw::LONGEST_NAP {
+        true => Start { n, nap: 2 },
+        false => Start { n, nap },
+    }
+}
+
 impl Sums {
+    fn missed(&self) -> Option<String> {
+        let by_kinds = self.by_kinds.missed().map(str::to_string);
+        by_kinds
+            .or_else(|| self.naps.missed(&SHOWN))
+            .or_else(|| (self.further_naps == 0).then(|| "nobody slept twice".to_string()))
+    }
+
     fn told(&self) -> String {
         format!(
             "reached tables: {} runs, {} of the 31 numbers of processes, {} calls ({} refused), \
-             {} rendezvous, {} collections, {} offers withdrawn, {} too late, {} times at rest; {}",
+             {} rendezvous, {} collections, {} offers withdrawn, {} too late, {} times at rest; {}; \
+             {}, {} naps of such as had napped before",
             self.runs,
             self.sizes.len(),
             self.calls,
@@ -70,7 +99,9 @@ impl Sums {
             self.withdrawn,
             self.late,
             self.rests,
-            self.by_kinds.told()
+            self.by_kinds.told(),
+            self.naps.told(),
+            self.further_naps
         )
     }
 }
@@ -82,13 +113,15 @@ struct Run<'a> {
     /// Whether idle parties offer lists with which the desk never runs dry.
     sociable: bool,
     calls: Vec<Call>,
+    /// The processes that made steps within a nap.
+    slept: BTreeSet<usize>,
     sums: &'a mut Sums,
 }
 
 impl Run<'_> {
     /// Some hundred calls in any order, then steps until rest; four times over.
-    fn all(&mut self, n: usize) -> Result<(), String> {
-        let mut follow = Follow::new(self.library, n)?;
+    fn all(&mut self, start: Start) -> Result<(), String> {
+        let (n, mut follow) = (start.n, Follow::new(self.library, start)?);
         for _ in 0..4 {
             for _ in 0..30 + 15 * n {
                 let call = self.lively(&follow);
@@ -126,7 +159,11 @@ impl Run<'_> {
         self.calls.push(call);
         let call = self.calls.last().expect("one was just put there");
         self.sums.by_kinds.note(&follow.desk, call);
+        self.sums.naps.note(&follow.desk, call);
         let answer = follow.call(self.library, call)?;
+        if let Call::Step { party } = *call {
+            self.note_nap(&follow.desk, party);
+        }
         self.sums.calls += 1;
         match answer {
             Ok(Given::Outcome(_)) => self.sums.collections += 1,
@@ -136,6 +173,18 @@ impl Run<'_> {
             Ok(_) => {}
         }
         Ok(answer.ok())
+    }
+
+    /// Notes where a process is after a step: at S it has just fallen asleep, or
+    /// made a step within its nap.
+    fn note_nap(&mut self, desk: &Desk, party: usize) {
+        match desk.parties.get(party).map(|record| record.place) {
+            Some(Place::Asleep(0)) if self.slept.contains(&party) => self.sums.further_naps += 1,
+            Some(Place::Asleep(1..)) => {
+                self.slept.insert(party);
+            }
+            _ => {}
+        }
     }
 
     /// Steps those that can move, in random order, until none can.
@@ -153,16 +202,27 @@ impl Run<'_> {
             self.random.shuffle(&mut movers);
             for party in movers {
                 self.call(follow, Call::Step { party })?;
+                if self.random.one_in(2) {
+                    self.sleep_through(follow, party)?;
+                }
             }
         }
         Err("the table does not come to rest".to_string())
+    }
+
+    /// Steps a process until it leaves S, if it sleeps.
+    fn sleep_through(&mut self, follow: &mut Follow, party: usize) -> Result<(), String> {
+        while matches!(follow.desk.parties[party].place, Place::Asleep(_)) {
+            self.call(follow, Call::Step { party })?;
+        }
+        Ok(())
     }
 }
 
 #[cfg(test)]
 mod tests {
     use super::*;
-    use crate::erring::{Erring, KindBlind, ERRORS};
+    use crate::erring::{Erring, KindBlind, OtherNap, ERRORS, NAP_ERRORS};
     use crate::library::{Modelled, Reply};
     use crate::wire::Table;
     use model::Message;
@@ -186,8 +246,8 @@ mod tests {
     struct Exchanged;
 
     impl Library for Exchanged {
-        fn create(&self, n: u8) -> Result<Table, u8> {
-            Modelled.create(n)
+        fn create(&self, n: u8, nap: u8) -> Result<Table, u8> {
+            Modelled.create(n, nap)
         }
 
         fn call(&self, table: &Table, call: &Call) -> Reply {
@@ -218,6 +278,30 @@ mod tests {
             let found = (31..62).find_map(|seed| one_run(&library, seed).err());
             let text = found.expect("a difference").text;
             assert!(text.contains("\nw ") && text.lines().count() < 25, "{text}");
+        }
+    }
+
+    #[test]
+    fn errors_in_naps_are_found_and_told_in_few_lines() {
+        for error in NAP_ERRORS {
+            let library = OtherNap(error);
+            let found = (31..62).find_map(|seed| one_run(&library, seed).err());
+            let text = found.expect("a difference").text;
+            assert!(text.contains("\ns ") && text.lines().count() < 25, "{text}");
+        }
+    }
+
+    #[test]
+    fn runs_go_through_every_number_with_every_nap() {
+        let starts: Vec<Start> = (0..7 * 31).map(start).collect();
+        for n in 2..=32 {
+            let naps: BTreeSet<u8> = starts
+                .iter()
+                .filter(|start| start.n == n)
+                .map(|start| start.nap)
+                .collect();
+            assert!(naps.is_superset(&BTreeSet::from([1, 2, 3, 4])));
+            assert_eq!(naps.contains(&255), n <= MOST_WITH_LONGEST_NAPS);
         }
     }
 

@@ -6,11 +6,29 @@ use std::time::{Duration, Instant};
 /// Reducing stops after this time with the smallest input so far.
 const PATIENCE: Duration = Duration::from_secs(20);
 
-/// A smaller list that still fails: leaves out pieces of half the length, then
-/// of a quarter, and so on down to single items.
+/// A list with more items than these has too many runs of neighbours to try each.
+const MOST_FOR_RUNS: usize = 64;
+
+/// A smaller list that still fails.
 pub fn smallest<T: Clone>(items: &[T], mut fails: impl FnMut(&[T]) -> bool) -> Vec<T> {
     let end = Instant::now() + PATIENCE;
     let mut kept = items.to_vec();
+    loop {
+        kept = without_pieces(kept, &mut fails, end);
+        match without_a_run(&kept, &mut fails, end) {
+            Some(fewer) => kept = fewer,
+            None => return kept,
+        }
+    }
+}
+
+/// Leaves out pieces of half the length, then of a quarter, and so on down to
+/// single items.
+fn without_pieces<T: Clone>(
+    mut kept: Vec<T>,
+    fails: &mut impl FnMut(&[T]) -> bool,
+    end: Instant,
+) -> Vec<T> {
     let mut piece = kept.len().div_ceil(2).max(1);
     loop {
         let before = kept.len();
@@ -30,6 +48,25 @@ pub fn smallest<T: Clone>(items: &[T], mut fails: impl FnMut(&[T]) -> bool) -> V
             piece = piece.div_ceil(2).max(1);
         }
     }
+}
+
+/// Leaves out one run of neighbours, a longer one first: some calls, as those of a
+/// whole rendezvous, can go only together.
+fn without_a_run<T: Clone>(
+    items: &[T],
+    fails: &mut impl FnMut(&[T]) -> bool,
+    end: Instant,
+) -> Option<Vec<T>> {
+    let count = items.len();
+    if count > MOST_FOR_RUNS {
+        return None;
+    }
+    let runs = (2..=count).rev();
+    let mut runs = runs.flat_map(|length| (0..=count - length).map(move |at| (at, length)));
+    runs.find_map(|(at, length)| {
+        let fewer = [&items[..at], &items[at + length..]].concat();
+        (Instant::now() < end && fails(&fewer)).then_some(fewer)
+    })
 }
 
 /// The same with kind 0 where it still fails with it: in all guards at once, so
@@ -63,6 +100,13 @@ mod tests {
         let items: Vec<u32> = (0..1000).collect();
         let fails = |some: &[u32]| some.contains(&17) && some.contains(&800);
         assert_eq!(smallest(&items, fails), [17, 800]);
+    }
+
+    #[test]
+    fn what_can_go_only_together_goes() {
+        let items: Vec<u32> = (0..=30).collect();
+        let fails = |some: &[u32]| some.contains(&0) && some.len() % 5 == 1;
+        assert_eq!(smallest(&items, fails), [0]);
     }
 
     #[test]

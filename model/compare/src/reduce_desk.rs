@@ -1,7 +1,7 @@
 //! Making a failing pair of desk and call smaller, value by value.
 
 use crate::reduce::with_plain_kinds;
-use model::{Call, Desk, Message, Party, Ticket};
+use model::{Call, Desk, Message, Party, Place, Ticket};
 
 type Case = (Desk, Call);
 
@@ -27,6 +27,7 @@ fn simpler(case: &Case) -> Vec<Case> {
         let smaller = Desk { n, ..desk.clone() };
         cases.push((smaller, call.clone()));
     }
+    cases.extend(shorter_naps(desk).map(|desk| (desk, call.clone())));
     let ticketless = Desk {
         next_ticket: Ticket(0),
         ..desk.clone()
@@ -49,6 +50,26 @@ fn simpler(case: &Case) -> Vec<Case> {
     cases
 }
 
+/// With a nap of one step, of half the length and of one step less; each also with
+/// so many steps less for every sleeper, since the steps left may be what counts.
+fn shorter_naps(desk: &Desk) -> impl Iterator<Item = Desk> + '_ {
+    let shorter = [1, desk.nap / 2, desk.nap.saturating_sub(1)];
+    let shorter = shorter.into_iter().filter(|&nap| 0 < nap && nap < desk.nap);
+    shorter.flat_map(|nap| {
+        let alone = Desk {
+            nap,
+            ..desk.clone()
+        };
+        let mut with_sleepers = alone.clone();
+        for record in &mut with_sleepers.parties {
+            if let Place::Asleep(steps) = &mut record.place {
+                *steps = steps.saturating_sub(desk.nap - nap);
+            }
+        }
+        [with_sleepers, alone]
+    })
+}
+
 /// Each with something taken away.
 fn simpler_records(record: &Party) -> Vec<Party> {
     let fresh = Party::fresh();
@@ -68,6 +89,11 @@ fn simpler_records(record: &Party) -> Vec<Party> {
     with(&|party| party.signal = None);
     with(&|party| party.ticket = Ticket(0));
     with(&|party| party.wake_count = 1);
+    if let Place::Asleep(steps) = record.place {
+        with(&|party| party.place = Place::Asleep(0));
+        with(&|party| party.place = Place::Asleep(steps / 2));
+        with(&|party| party.place = Place::Asleep(steps.saturating_sub(1)));
+    }
     for at in 0..record.guards.len() {
         with(&|party| quiet(&mut party.guards[at]));
     }

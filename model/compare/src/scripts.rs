@@ -4,6 +4,7 @@ use crate::part::{Budget, Finding, Verdict};
 use crate::program::{Program, WHOLE};
 use crate::random::Random;
 use crate::reduce::smallest;
+use crate::sorts::{by_kind, by_nap, sort, Sleepers, SORTS};
 use crate::spoil::{noise, spoil};
 use crate::write::script;
 use std::borrow::Cow;
@@ -22,26 +23,21 @@ struct Sums {
     sorts: BTreeMap<String, u64>,
 }
 
-/// The sorts of output line that a script can bring about: each command, a
-/// withdrawal in time and too late, and each refusal but 7 and 12. Then offers
-/// with kinds that are accepted, and such as are malformed for a kind alone.
-const SORTS: [&str; 20] = [
-    "n", "o", "s", "c", "w ok", "w late", "m", "x 1", "x 2", "x 3", "x 4", "x 5", "x 6", "x 8",
-    "x 11", "x 13", "x 14", WITH_KIND, WITH_ZERO, CROOKED,
-];
-const WITH_KIND: &str = "o with a kind";
-const WITH_ZERO: &str = "o with kind 0 written out";
-const CROOKED: &str = "x 8 for a kind alone";
-
 impl Sums {
     fn note(&mut self, input: &[u8], output: &[u8]) {
         self.inputs += 1;
         self.bytes += input.len() as u64;
+        let mut sleepers = Sleepers::default();
         // Each line of the input has one line of the output.
         for (line, answer) in lines(input).zip(lines(output)) {
             self.lines += 1;
-            let by_kind = sort_by_kind(&line, &answer).map(str::to_string);
-            for sort in by_kind.into_iter().chain([sort(&answer)]) {
+            let shown = [
+                by_kind(&line, &answer),
+                by_nap(&line, &answer),
+                sleepers.note(&answer),
+            ];
+            let shown = shown.into_iter().flatten().map(str::to_string);
+            for sort in shown.chain([sort(&answer)]) {
                 *self.sorts.entry(sort).or_insert(0) += 1;
             }
         }
@@ -58,45 +54,6 @@ impl Sums {
 fn lines(bytes: &[u8]) -> impl Iterator<Item = Cow<'_, str>> {
     let lines = bytes.split_inclusive(|&byte| byte == b'\n');
     lines.map(String::from_utf8_lossy)
-}
-
-/// What an offer with kinds in it shows, if it shows something of them.
-fn sort_by_kind(line: &str, answer: &str) -> Option<&'static str> {
-    if !line.contains(':') {
-        return None;
-    }
-    let mut words = line.split_whitespace();
-    match answer.starts_with('o') {
-        true if words.any(|word| word.ends_with(":0")) => Some(WITH_ZERO),
-        true => Some(WITH_KIND),
-        false => (malformed(line) && !malformed(&without_kinds(line))).then_some(CROOKED),
-    }
-}
-
-fn malformed(line: &str) -> bool {
-    let output = model::script::run(format!("n 2\n{line}").as_bytes());
-    output.ends_with(b"x 8\n")
-}
-
-/// The line without its colons and the digits behind them.
-fn without_kinds(line: &str) -> String {
-    let pieces = line.split(':').enumerate();
-    pieces
-        .map(|(at, piece)| match at {
-            0 => piece,
-            _ => piece.trim_start_matches(|digit: char| digit.is_ascii_digit()),
-        })
-        .collect()
-}
-
-fn sort(line: &str) -> String {
-    let words: Vec<&str> = line.split_whitespace().collect();
-    match words.as_slice() {
-        ["x", number] => format!("x {number}"),
-        ["w", _, end] => format!("w {end}"),
-        [command, ..] => command.to_string(),
-        [] => String::new(),
-    }
 }
 
 pub fn run(program: &Program, budget: Budget) -> Verdict {
@@ -188,25 +145,4 @@ pub fn told(program: &Program, input: &[u8], text: &str) -> String {
         .map(|line| format!("{}\n", line.escape_ascii()))
         .collect();
     format!("{text}\nthe shortest input found gives: {again}\n{shown}")
-}
-
-#[cfg(test)]
-mod tests {
-    use super::*;
-
-    #[test]
-    fn offers_are_sorted_by_their_kinds() {
-        for (line, answer, sort) in [
-            ("o 0 1?\n", "o 0 t0\n", None),
-            ("o 0 1?:3\n", "o 0 t0\n", Some(WITH_KIND)),
-            ("o 0 1?:0\n", "o 0 t0\n", Some(WITH_ZERO)),
-            ("o 0 1?:256\n", "x 8\n", Some(CROOKED)),
-            ("o 0 1!:3w5\n", "x 8\n", Some(CROOKED)),
-            ("o 0 1?:1:2\n", "x 8\n", Some(CROOKED)),
-            ("o 0 1?:3\n", "x 8\n", None),
-            ("o 0 x?:3\n", "x 8\n", None),
-        ] {
-            assert_eq!(sort_by_kind(line, answer), sort, "{line}");
-        }
-    }
 }

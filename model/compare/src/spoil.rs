@@ -5,6 +5,9 @@ use crate::random::Random;
 /// Bytes that a line might be confused by.
 const BYTES: &[u8] = b" \n\r\t\0-+?!:0123456789wrlnoscmxABCDEFabcdef.\x7f\x80\xff";
 
+/// About as long as the first line of a script.
+const FIRST_LINE: usize = 8;
+
 /// Some changes here and there.
 pub fn spoil(random: &mut Random, script: &mut Vec<u8>) {
     for _ in 0..1 + random.below(6) {
@@ -13,7 +16,11 @@ pub fn spoil(random: &mut Random, script: &mut Vec<u8>) {
 }
 
 fn change(random: &mut Random, script: &mut Vec<u8>) {
-    let at = random.below(script.len() + 1);
+    let at = match random.one_in(8) {
+        // The first line makes the table.
+        true => random.below(script.len().min(FIRST_LINE) + 1),
+        false => random.below(script.len() + 1),
+    };
     let byte = match random.one_in(4) {
         true => random.byte(),
         false => random.pick(BYTES),

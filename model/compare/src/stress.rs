@@ -6,7 +6,8 @@
 use crate::draw;
 use crate::follow::{told, Follow};
 use crate::ledger::{self, Ends, History};
-use crate::library::{fresh, Library};
+use crate::library::{Library, Start};
+use crate::naps::{Naps, WITHIN};
 use crate::part::{Budget, Finding, Verdict};
 use crate::random::Random;
 use crate::wire::Table;
@@ -21,6 +22,14 @@ const ROUND: Duration = Duration::from_millis(400);
 
 /// The thread that withdraws.
 const WITHDRAWING: usize = 1;
+
+/// The numbers of processes and the nap lengths of one round after the other.
+const NUMBERS: [usize; 5] = [2, 3, 4, 8, 32];
+const NAPS: [u8; 4] = [1, 2, draw::LONGEST_NAP, 3];
+
+/// With more processes than these, it would take long to sleep the longest naps
+/// through.
+const MOST_WITH_LONGEST_NAPS: usize = 4;
 
 struct Shared {
     table: Table,
@@ -84,21 +93,34 @@ struct Sums {
     withdrawn: usize,
     late: usize,
     open: usize,
+    /// Whether some naps had more than one step.
+    long_naps: bool,
+    naps: Naps,
 }
 
 pub fn run(library: &dyn Library, budget: Budget) -> Verdict {
     let mut sums = Sums::default();
     for seed in budget.seeds() {
-        let n = [2, 3, 4, 8, 32][(seed % 5) as usize];
+        let start = start(seed);
         let found = |text| Finding::new(seed, text);
-        let mut shared = round(library, n, seed).map_err(found)?;
-        finish(library, n, &mut shared).map_err(found)?;
-        let ends = check(library, n, &shared).map_err(found)?;
+        let mut shared = round(library, start, seed).map_err(found)?;
+        finish(library, start.n, &mut shared).map_err(found)?;
+        let ends = check(library, start, &shared, &mut sums.naps).map_err(found)?;
         sums.note(&shared, &ends);
+        sums.long_naps |= start.nap > 1;
     }
     match sums.missed() {
         Some(text) => Err(Finding::new(budget.seed, text)),
         None => Ok(sums.told()),
+    }
+}
+
+fn start(seed: u64) -> Start {
+    let n = NUMBERS[(seed % NUMBERS.len() as u64) as usize];
+    let nap = NAPS[(seed % NAPS.len() as u64) as usize];
+    match n > MOST_WITH_LONGEST_NAPS && nap == draw::LONGEST_NAP {
+        true => Start { n, nap: 4 },
+        false => Start { n, nap },
     }
 }
 
@@ -114,10 +136,11 @@ impl Sums {
 
     /// What has to happen in a race, and did not. How many withdrawals come too
     /// late is the scheduler's: few, where one thread keeps its core for long.
-    fn missed(&self) -> Option<&'static str> {
+    fn missed(&self) -> Option<String> {
         match self {
-            Sums { switches: 0, .. } => Some("the two threads never took turns"),
-            Sums { withdrawn: 0, .. } => Some("no offer was withdrawn"),
+            Sums { switches: 0, .. } => Some("the two threads never took turns".to_string()),
+            Sums { withdrawn: 0, .. } => Some("no offer was withdrawn".to_string()),
+            _ if self.long_naps => self.naps.missed(&[WITHIN]),
             _ => None,
         }
     }
@@ -125,23 +148,24 @@ impl Sums {
     fn told(&self) -> String {
         format!(
             "stress: {} calls of two threads, {} turns between them, {} messages, none lost and none twice; \
-             of {} offers each one met, was withdrawn ({}) or stayed open ({}), {} withdrawals too late",
+             of {} offers each one met, was withdrawn ({}) or stayed open ({}), {} withdrawals too late; {}",
             self.calls,
             self.switches,
             self.messages,
             2 * self.messages + self.withdrawn + self.open,
             self.withdrawn,
             self.open,
-            self.late
+            self.late,
+            self.naps.told()
         )
     }
 }
 
 /// Two threads for a while.
-fn round(library: &dyn Library, n: usize, seed: u64) -> Result<Shared, String> {
+fn round(library: &dyn Library, start: Start, seed: u64) -> Result<Shared, String> {
     let lock = Lock {
         shared: Mutex::new(Shared {
-            table: fresh(library, n)?,
+            table: start.table(library)?,
             history: Vec::new(),
             switches: 0,
             last: 0,
@@ -151,7 +175,7 @@ fn round(library: &dyn Library, n: usize, seed: u64) -> Result<Shared, String> {
     let end = Instant::now() + ROUND;
     thread::scope(|scope| {
         for thread in 0..2 {
-            let mut half = Half::new(thread, n, seed);
+            let mut half = Half::new(thread, start.n, seed);
             let lock = &lock;
             scope.spawn(move || half.drive(library, lock, end));
         }
@@ -240,8 +264,8 @@ impl Half {
     }
 }
 
-/// Steps and collects until nothing is left to do, so that whatever met is
-/// also collected.
+/// Steps and collects in rounds, in number order, until nothing is left to do, so
+/// that whatever met is also collected. Such rounds come to rest.
 fn finish(library: &dyn Library, n: usize, shared: &mut Shared) -> Result<(), String> {
     for _ in 0..100_000 {
         let mut busy = false;
@@ -259,9 +283,15 @@ fn finish(library: &dyn Library, n: usize, shared: &mut Shared) -> Result<(), St
 
 /// Goes through the history again beside model and book, then by its answers
 /// alone. What the answers leave open is what the book has open.
-fn check(library: &dyn Library, n: usize, shared: &Shared) -> Result<Ends, String> {
-    let mut follow = Follow::new(library, n)?;
+fn check(
+    library: &dyn Library,
+    start: Start,
+    shared: &Shared,
+    naps: &mut Naps,
+) -> Result<Ends, String> {
+    let mut follow = Follow::new(library, start)?;
     for (at, (call, answer)) in shared.history.iter().enumerate() {
+        naps.note(&follow.desk, call);
         let again = follow.call(library, call);
         if again.as_ref() != Ok(answer) {
             let calls: Vec<Call> = shared.history[..=at]
@@ -269,7 +299,7 @@ fn check(library: &dyn Library, n: usize, shared: &Shared) -> Result<Ends, Strin
                 .map(|(call, _)| call.clone())
                 .collect();
             let text = format!("call {at} answered {answer:?} to a thread, and now {again:?}");
-            return Err(told(library, n, &calls, &text));
+            return Err(told(library, start, &calls, &text));
         }
     }
     if follow.table != shared.table {

@@ -1,13 +1,14 @@
-//! How often each refusal, each rule, each withdrawal, each case that kinds decide
-//! and each odd case was hit.
+//! How often each refusal, each rule, each withdrawal, each case that kinds or naps
+//! decide and each odd case was hit.
 
 use crate::damage::{Point, POINTS};
 use crate::fit::{search, Search};
 use crate::library::Reply;
+use crate::naps;
 use model::{Answer, Call, Desk, Given, Guard, Party, Place, Withdrawal};
 use std::collections::BTreeMap;
 
-const REFUSALS: [u8; 11] = [1, 2, 3, 4, 5, 6, 7, 11, 12, 13, 14];
+const REFUSALS: [u8; 12] = [1, 2, 3, 4, 5, 6, 7, 11, 12, 13, 14, 15];
 
 const WITHDRAWN: &str = "withdrawn";
 const TOO_LATE: &str = "too late";
@@ -27,6 +28,12 @@ const PASSED_OVER: &str = "rule 7 behind a guard that matches but for its kind";
 const FOUND_NONE: &str = "rule 8 where a guard matches but for its kind";
 const KINDS_REPLACED: &str = "rule 10 over a list that differs in kinds alone";
 
+// What a sleeper's steps decide, with a nap of d steps.
+const OVERSLEPT_BY_D: &str = "7 for a sleeper with d steps";
+const OVERSLEPT_BY_MORE: &str = "7 for a sleeper with d + 1 steps";
+const OVERSLEPT_BY_MOST: &str = "7 for a sleeper with 255 steps, d below it";
+const OVERSLEPT_BY_NOBODY: &str = "no 7 for d steps at S past the last process";
+
 // Odd cases that only damaged tables have.
 const EQUAL_TICKETS: &str = "rule 6 with equal tickets";
 const DISABLED_OWN: &str = "rule 8 with a disabled own guard";
@@ -38,10 +45,14 @@ const NAN_HANDED_OVER: &str = "rule 9 hands over a NaN";
 const STILL_ACCEPTING: &str = "rule 13 with wake count 0";
 const SIGNAL_STAYS: &str = "withdrawn under an old signal";
 
-const CASES: [&str; 12] = [
+const CASES: [&str; 16] = [
     PASSED_OVER,
     FOUND_NONE,
     KINDS_REPLACED,
+    OVERSLEPT_BY_D,
+    OVERSLEPT_BY_MORE,
+    OVERSLEPT_BY_MOST,
+    OVERSLEPT_BY_NOBODY,
     EQUAL_TICKETS,
     DISABLED_OWN,
     TWO_RECEIVING,
@@ -63,7 +74,8 @@ impl Tally {
     pub fn new() -> Tally {
         let refusals = REFUSALS.iter().map(|&number| refusal_name(number));
         let rules = (1..=15).map(rule_name);
-        let cases = CASES.iter().map(|name| name.to_string());
+        let cases = CASES.iter().chain(&naps::SHOWN);
+        let cases = cases.map(|name| name.to_string());
         let points = POINTS.iter().map(point_name);
         let names = refusals.chain(rules).chain(cases).chain(points);
         let names = names.chain(withdrawals());
@@ -81,15 +93,25 @@ impl Tally {
         self.hit(refusal_name(number));
     }
 
-    pub fn out_of_form(&mut self, point: Point) {
+    /// Notes a desk that is out of form at one point.
+    pub fn out_of_form(&mut self, desk: &Desk, point: Point) {
         self.hit(point_name(&point));
+        if point == Point::Overslept {
+            let sleepers = desk.parties.iter().take(desk.n);
+            for steps in sleepers.filter_map(steps_at_s) {
+                if let Some(name) = overslept(steps, desk.nap) {
+                    self.hit(name.to_string());
+                }
+            }
+        }
     }
 
     /// Notes a call on the desk as it was before.
     pub fn note(&mut self, before: &Desk, call: &Call, reply: &Reply) {
         self.calls += 1;
-        if let Err(number) = reply.answer {
-            self.refused(number);
+        match reply.answer {
+            Err(number) => self.refused(number),
+            Ok(_) => self.naps(before, call),
         }
         match (&reply.answer, call) {
             (Ok(Given::Place(answer)), Call::Step { party }) => {
@@ -105,6 +127,16 @@ impl Tally {
                 }
             }
             _ => {}
+        }
+    }
+
+    fn naps(&mut self, desk: &Desk, call: &Call) {
+        if let Some(name) = naps::shown(desk, call) {
+            self.hit(name.to_string());
+        }
+        let mut past = desk.parties.iter().skip(desk.n).filter_map(steps_at_s);
+        if past.any(|steps| steps >= desk.nap) {
+            self.hit(OVERSLEPT_BY_NOBODY.to_string());
         }
     }
 
@@ -170,12 +202,29 @@ fn said_by_withdrawal(answer: &Result<Given, u8>) -> Option<&'static str> {
     }
 }
 
+fn steps_at_s(record: &Party) -> Option<u8> {
+    match record.place {
+        Place::Asleep(steps) => Some(steps),
+        _ => None,
+    }
+}
+
+/// How a sleeper with these steps has made too many for such a nap, if it has and
+/// lies at an edge.
+fn overslept(steps: u8, nap: u8) -> Option<&'static str> {
+    match steps.checked_sub(nap)? {
+        0 => Some(OVERSLEPT_BY_D),
+        1 => Some(OVERSLEPT_BY_MORE),
+        _ => (steps == u8::MAX).then_some(OVERSLEPT_BY_MOST),
+    }
+}
+
 /// The rule by which a party at this place gives this answer.
 fn rule_of(place: Place, answer: Option<Answer>) -> u8 {
     let letter = answer.map(|answer| answer.letter);
     match (place, letter) {
         (Place::Entering, _) => 1,
-        (Place::Asleep, _) => 2,
+        (Place::Asleep(_), _) => 2,
         (Place::Scanning(_), Some('T')) => 4,
         (Place::Scanning(_), Some('S')) => 5,
         (Place::Scanning(_), Some(_)) => 3,

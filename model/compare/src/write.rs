@@ -1,7 +1,7 @@
 //! Random scripts: good sessions, odd lines, and long ones.
 
 use crate::draw;
-use crate::library::{line, line_with, parts};
+use crate::library::{line, line_with, parts, Start};
 use crate::pace::Pace;
 use crate::random::Random;
 use model::{Call, Desk, Guard, Place};
@@ -64,6 +64,26 @@ const BAD_KINDS: [&str; 12] = [
     " :1",
 ];
 
+/// What may not stand behind a good number of processes.
+const BAD_NAPS: [&str; 16] = [
+    " ",
+    " 00",
+    " 01",
+    " 256",
+    " 1000",
+    " 4294967297",
+    " -1",
+    " +1",
+    " 1 1",
+    " 1 ",
+    "  1",
+    " a",
+    " 1.0",
+    " :1",
+    " 1?",
+    " \t1",
+];
+
 /// Lines that are nearly commands; `w` begins a message as well.
 const NO_COMMANDS: [&str; 8] = ["", "w", "w0", "w-1", "w 0 1", "w 0 1?", "W 0", "w w0"];
 
@@ -84,8 +104,7 @@ fn session(random: &mut Random) -> Vec<u8> {
     let sociable = !random.one_in(3);
     let with_kinds = !random.one_in(3);
     let mut pace = Pace::default();
-    let mut desk = Desk::new(n).expect("2 to 32 parties");
-    let mut script = format!("n {n}\n").into_bytes();
+    let (mut desk, mut script) = made(random, n);
     for _ in 0..20 + random.below(300) {
         if random.one_in(40) {
             script.extend(odd_line(random));
@@ -95,16 +114,43 @@ fn session(random: &mut Random) -> Vec<u8> {
         if !with_kinds {
             forget_kinds(&mut call);
         }
-        // Whether it is refused is for the two programs to say.
-        let _ = call.on(&mut desk);
-        let line = match with_kinds {
+        let mut line = match with_kinds {
             true => line_with(&call, |guard| written(random, guard)),
             false => line(&call),
         };
-        script.extend(line.into_bytes());
-        script.push(b'\n');
+        line.push('\n');
+        for _ in 0..times(random, &desk, &call) {
+            // Whether it is refused is for the two programs to say.
+            let _ = call.on(&mut desk);
+            script.extend(line.as_bytes());
+        }
     }
     script
+}
+
+/// A fresh desk and the line that makes it. The nap length is often left out, and
+/// then 1; but 1 is written out as well.
+fn made(random: &mut Random, n: usize) -> (Desk, Vec<u8>) {
+    let (nap, line) = match random.one_in(2) {
+        true => (1, format!("n {n}\n")),
+        false => {
+            let nap = draw::nap(random);
+            (nap, format!("n {n} {nap}\n"))
+        }
+    };
+    (Start { n, nap }.desk(), line.into_bytes())
+}
+
+/// How many times a call is made in a row: once, but now and then a sleeper is
+/// stepped until it leaves S, so that the longest naps end as well.
+fn times(random: &mut Random, desk: &Desk, call: &Call) -> usize {
+    let Call::Step { party } = *call else {
+        return 1;
+    };
+    match desk.parties.get(party).map(|record| record.place) {
+        Some(Place::Asleep(steps)) if random.one_in(8) => usize::from(desk.nap - steps),
+        _ => 1,
+    }
 }
 
 fn forget_kinds(call: &mut Call) {
@@ -150,15 +196,17 @@ fn odd_lines(random: &mut Random) -> Vec<u8> {
 /// A line of well-formed parts that need not fit together.
 fn odd_line(random: &mut Random) -> Vec<u8> {
     let number = random.pick(&NUMBERS);
-    let mut line = match random.below(10) {
+    let mut line = match random.below(12) {
         0 => format!("n {number}"),
-        1 => format!("s {number}"),
-        2 => format!("c {number}"),
-        3 => format!("w {number}"),
-        4 => "m".to_string(),
-        5 => random.pick(&NO_COMMANDS).to_string(),
-        6 => return long_line(random),
-        7 => crooked_offer(random),
+        1 => format!("n {number} {}", odd_nap(random)),
+        2 => crooked_new(random),
+        3 => format!("s {number}"),
+        4 => format!("c {number}"),
+        5 => format!("w {number}"),
+        6 => "m".to_string(),
+        7 => random.pick(&NO_COMMANDS).to_string(),
+        8 => return long_line(random),
+        9 => crooked_offer(random),
         _ => {
             let guards: String = (0..random.below(11)).map(|_| odd_guard(random)).collect();
             format!("o {number}{guards}")
@@ -166,6 +214,19 @@ fn odd_line(random: &mut Random) -> Vec<u8> {
     };
     line.push('\n');
     line.into_bytes()
+}
+
+/// A nap length at any bound, often 0.
+fn odd_nap(random: &mut Random) -> &'static str {
+    match random.one_in(3) {
+        true => "0",
+        false => random.pick(&NUMBERS),
+    }
+}
+
+/// A line for a new table that is malformed by its nap length alone.
+fn crooked_new(random: &mut Random) -> String {
+    format!("n {}{}", 2 + random.below(31), random.pick(&BAD_NAPS))
 }
 
 /// An offer that is malformed by the kind of one guard alone.
@@ -237,10 +298,11 @@ fn long_line(random: &mut Random) -> Vec<u8> {
         1 => random.pick(&[255, 256, 257, 400, 4095, 4096, 4097, 65_536]),
         _ => 198 + random.below(5),
     };
-    let mut line = match random.below(4) {
+    let mut line = match random.below(5) {
         0 => b"o 0 1!w-2147483648 1!l000000007f800000".to_vec(),
         1 => b"m".to_vec(),
         2 => b"w 0".to_vec(),
+        3 => b"n 2 3".to_vec(),
         _ => b"s 0".to_vec(),
     };
     let filler: &[u8] = random.pick(&[
@@ -294,6 +356,38 @@ mod tests {
             assert!(kinds.contains(&format!("P?{kind}")), "{kind}");
         }
         assert!(kinds.contains("P:3?") && kinds.contains(":3P?"));
+    }
+
+    #[test]
+    fn a_crooked_nap_is_malformed_and_good_without_it() {
+        let mut random = Random::new(7);
+        let mut naps = BTreeSet::new();
+        for _ in 0..2000 {
+            let line = crooked_new(&mut random);
+            assert_eq!(
+                model::script::run(format!("{line}\n").as_bytes()),
+                b"x 8\n",
+                "{line}"
+            );
+            let nap = line.trim_start_matches("n ");
+            naps.insert(
+                nap.trim_start_matches(|c: char| c.is_ascii_digit())
+                    .to_string(),
+            );
+        }
+        assert!(naps.iter().eq(&BTreeSet::from(BAD_NAPS)));
+    }
+
+    #[test]
+    fn sessions_are_made_with_and_without_a_nap_length() {
+        let mut random = Random::new(8);
+        let mut lines = BTreeSet::new();
+        for _ in 0..200 {
+            lines.extend(String::from_utf8(made(&mut random, 2).1));
+        }
+        for wanted in ["n 2\n", "n 2 1\n", "n 2 2\n", "n 2 4\n", "n 2 255\n"] {
+            assert!(lines.contains(wanted), "{wanted}");
+        }
     }
 
     #[test]

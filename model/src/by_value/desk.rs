@@ -13,6 +13,8 @@ pub const MOST_PARTIES: usize = 32;
 #[derive(Clone, Copy, Debug, PartialEq, Eq)]
 pub struct Desk {
     pub n: u8,
+    /// The nap length: a sleeper leaves S at its own step of this number there.
+    pub nap: u8,
     pub next_ticket: Ticket,
     pub parties: [Party; MOST_PARTIES],
 }
@@ -26,13 +28,17 @@ pub struct Outcome {
 }
 
 impl Desk {
-    /// A fresh desk of `n` parties.
-    pub fn new(n: u8) -> Result<Desk, Refusal> {
+    /// A fresh desk of `n` parties with nap length `nap`.
+    pub fn new(n: u8, nap: u8) -> Result<Desk, Refusal> {
         if !(2..=32).contains(&n) {
             return Err(Refusal::PartyCount);
         }
+        if nap == 0 {
+            return Err(Refusal::Nap);
+        }
         Ok(Desk {
             n,
+            nap,
             next_ticket: Ticket(0),
             parties: [Party::FRESH; MOST_PARTIES],
         })

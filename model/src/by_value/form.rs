@@ -4,7 +4,9 @@ use super::desk::Desk;
 use super::record::{GuardList, Party, Place, MOST_GUARDS};
 
 pub fn in_form(desk: &Desk) -> bool {
-    (2..=32).contains(&desk.n) && (0..desk.n).all(|party| party_in_form(desk, party))
+    (2..=32).contains(&desk.n)
+        && desk.nap > 0
+        && (0..desk.n).all(|party| party_in_form(desk, party))
 }
 
 fn party_in_form(desk: &Desk, party: u8) -> bool {
@@ -13,6 +15,7 @@ fn party_in_form(desk: &Desk, party: u8) -> bool {
         && list_in_form(&record.posted, party, desk.n)
         && indexes_in_form(record)
         && kept_in_form(desk, record)
+        && sleeper_in_form(record, desk.nap)
 }
 
 fn list_in_form(list: &GuardList, party: u8, n: u8) -> bool {
@@ -43,6 +46,14 @@ fn kept_in_form(desk: &Desk, record: &Party) -> bool {
             .guards
             .get(own)
             .is_some_and(|guard| kept < desk.party(guard.partner).posted.count),
+        _ => true,
+    }
+}
+
+/// A sleeper leaves S at its step number `nap`, so it has made fewer there.
+fn sleeper_in_form(record: &Party, nap: u8) -> bool {
+    match record.place {
+        Place::Asleep(steps) => steps < nap,
         _ => true,
     }
 }

@@ -29,7 +29,8 @@ pub struct IndexedMessage {
     pub message: Message,
 }
 
-/// Where a party stands, with the indexes at A, T and C and the outcome at M.
+/// Where a party stands, with the indexes at A, T and C, the own steps made at S
+/// and the outcome at M.
 #[derive(Clone, Copy, Debug, PartialEq, Eq)]
 pub enum Place {
     Idle,
@@ -40,7 +41,7 @@ pub enum Place {
     Posting,
     Opening,
     Showing,
-    Asleep,
+    Asleep(u8),
     Waiting,
     Met(IndexedMessage),
 }
@@ -117,7 +118,7 @@ impl Place {
             Place::Idle | Place::Entering | Place::Met(_) => Word::Running,
             Place::Scanning(_) | Place::Trying(_) | Place::Committed { .. } => Word::Alt,
             Place::Posting | Place::Opening | Place::Showing => Word::Alt,
-            Place::Asleep => Word::Sleeping,
+            Place::Asleep(_) => Word::Sleeping,
             Place::Waiting => Word::Waiting,
         }
     }

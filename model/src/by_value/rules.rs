@@ -9,8 +9,9 @@ use crate::place::Word;
 pub fn apply(desk: &mut Desk, p: u8) -> Option<Place> {
     let record = desk.party_mut(p);
     let place = match record.place {
-        // Rules 1 and 2.
-        Place::Entering | Place::Asleep => enabled_from(&record.guards, 0),
+        // Rule 1.
+        Place::Entering => enabled_from(&record.guards, 0),
+        Place::Asleep(steps) => sleep(desk, p, steps),
         Place::Scanning(own) => scan(desk, p, own)?,
         Place::Trying(own) => try_partner(desk, p, own),
         Place::Committed { own, kept } => deliver(desk, p, own, kept),
@@ -46,6 +47,15 @@ pub fn would_change(desk: &Desk, p: u8) -> bool {
     }
 }
 
+/// Rule 2 at the last step of a nap; each earlier step is counted. In form fewer
+/// than `nap` steps are made, so one more fits.
+fn sleep(desk: &Desk, p: u8, steps: u8) -> Place {
+    match steps + 1 {
+        made if made < desk.nap => Place::Asleep(made),
+        _ => enabled_from(&desk.party(p).guards, 0),
+    }
+}
+
 /// A at the first enabled guard at or after `from`, or P if there is none.
 fn enabled_from(guards: &GuardList, from: u8) -> Place {
     match (from..guards.count).find(|&index| guard_at(guards, index).enabled) {
@@ -61,7 +71,7 @@ fn scan(desk: &Desk, p: u8, own: u8) -> Option<Place> {
     match partner.place.word() {
         Word::Running | Word::Sleeping => Some(enabled_from(&record.guards, own + 1)),
         Word::Waiting => Some(Place::Trying(own)),
-        Word::Alt if partner.ticket < record.ticket => Some(Place::Asleep),
+        Word::Alt if partner.ticket < record.ticket => Some(Place::Asleep(0)),
         Word::Alt => None,
     }
 }

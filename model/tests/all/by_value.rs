@@ -2,7 +2,7 @@
 //! answers and the same desks, on damaged desks and along random runs.
 
 use crate::draw::Draw;
-use crate::tools::fresh;
+use crate::tools::fresh_with_nap;
 use model::by_value;
 use model::{Desk, Guard, IndexedMessage, Party, Place};
 
@@ -48,7 +48,7 @@ fn place(place: Place) -> by_value::Place {
         Place::Posting => by_value::Place::Posting,
         Place::Opening => by_value::Place::Opening,
         Place::Showing => by_value::Place::Showing,
-        Place::Asleep => by_value::Place::Asleep,
+        Place::Asleep(steps) => by_value::Place::Asleep(steps),
         Place::Waiting => by_value::Place::Waiting,
         Place::Met(outcome) => by_value::Place::Met(indexed(outcome)),
     }
@@ -73,19 +73,20 @@ fn value_of(desk: &Desk) -> by_value::Desk {
     }
     by_value::Desk {
         n: byte(desk.n),
+        nap: desk.nap,
         next_ticket: desk.next_ticket,
         parties,
     }
 }
 
-fn compare_offer(desk: &mut Desk, party: u8, guards: &[Guard]) {
+pub fn compare_offer(desk: &mut Desk, party: u8, guards: &[Guard]) {
     let offered: Vec<_> = guards.iter().map(guard).collect();
     let (answer, after) = value_of(desk).offer(party, &offered);
     assert_eq!(answer, desk.offer(usize::from(party), guards));
     assert_eq!(after, value_of(desk));
 }
 
-fn compare_step(desk: &mut Desk, party: u8) {
+pub fn compare_step(desk: &mut Desk, party: u8) {
     let (answer, after) = value_of(desk).step(party);
     let expected = desk.step(usize::from(party));
     let stands = |_| place(desk.parties[usize::from(party)].place);
@@ -93,7 +94,7 @@ fn compare_step(desk: &mut Desk, party: u8) {
     assert_eq!(after, value_of(desk));
 }
 
-fn compare_collect(desk: &mut Desk, party: u8) {
+pub fn compare_collect(desk: &mut Desk, party: u8) {
     let (answer, after) = value_of(desk).collect(party);
     let expected = desk.collect(usize::from(party));
     let outcome = |given: model::Outcome| by_value::Outcome {
@@ -105,13 +106,13 @@ fn compare_collect(desk: &mut Desk, party: u8) {
     assert_eq!(after, value_of(desk));
 }
 
-fn compare_withdraw(desk: &mut Desk, party: u8) {
+pub fn compare_withdraw(desk: &mut Desk, party: u8) {
     let (answer, after) = value_of(desk).withdraw(party);
     assert_eq!(answer, desk.withdraw(usize::from(party)));
     assert_eq!(after, value_of(desk));
 }
 
-fn compare_movers(desk: &Desk) {
+pub fn compare_movers(desk: &Desk) {
     let (answer, after) = value_of(desk).movers();
     assert_eq!(answer, desk.movers());
     assert_eq!(answer, desk.movers_by_rule());
@@ -121,9 +122,11 @@ fn compare_movers(desk: &Desk) {
 #[test]
 fn fresh_desks() {
     for n in 0..=255 {
-        let in_place = Desk::new(usize::from(n));
-        let made = in_place.map(|desk| value_of(&desk));
-        assert_eq!(by_value::Desk::new(n), made);
+        for nap in 0..=255 {
+            let in_place = Desk::new(usize::from(n), nap);
+            let made = in_place.map(|desk| value_of(&desk));
+            assert_eq!(by_value::Desk::new(n, nap), made);
+        }
     }
 }
 
@@ -155,10 +158,10 @@ fn compare_desks(seed: u64, wild: usize, desks: usize) {
     }
 }
 
-/// Puts one thing of a party just past what refusal 7 allows.
+/// Puts one thing of a party, or the nap length, just past what refusal 7 allows.
 fn damage(draw: &mut Draw, desk: &mut Desk) {
     let number = draw.random.below(desk.n);
-    let fault = draw.random.below(8);
+    let fault = draw.random.below(11);
     let (n, partner) = (desk.n, desk.parties[number].guards[0].partner);
     let kept = desk.parties[partner].posted.len();
     let party = &mut desk.parties[number];
@@ -174,6 +177,9 @@ fn damage(draw: &mut Draw, desk: &mut Desk) {
         4 => party.place = Place::Committed { own: 0, kept },
         5 => party.guards[0].partner = number,
         6 => party.posted[0].partner = n,
+        7 => party.place = Place::Asleep(desk.nap),
+        8 => party.place = Place::Asleep(desk.nap.saturating_add(1)),
+        9 => desk.nap = 0,
         _ => party.posted = vec![party.posted[0]; 9],
     }
 }
@@ -204,21 +210,28 @@ fn desks_damaged_at_an_edge() {
     }
 }
 
+/// Makes one random call, mostly a step, on both desks.
+fn compare_call(draw: &mut Draw, desk: &mut Desk) {
+    let party = draw.random.below(desk.n);
+    let guards = draw.list(party, desk.n);
+    let party = byte(party);
+    match draw.random.below(12) {
+        0 | 1 => compare_offer(desk, party, &guards),
+        2 => compare_collect(desk, party),
+        3 => compare_movers(desk),
+        4 if draw.random.one_in(4) => compare_withdraw(desk, party),
+        _ => compare_step(desk, party),
+    }
+}
+
 #[test]
 fn random_runs() {
     for (seed, n) in [(0x11, 2), (0x22, 3), (0x33, 8), (0x44, 32)] {
         let mut draw = Draw::new(seed, 0);
-        let mut desk = fresh(n);
-        for _ in 0..1500 {
-            let party = draw.random.below(n);
-            let guards = draw.list(party, n);
-            let party = byte(party);
-            match draw.random.below(12) {
-                0 | 1 => compare_offer(&mut desk, party, &guards),
-                2 => compare_collect(&mut desk, party),
-                3 => compare_movers(&desk),
-                4 if draw.random.one_in(4) => compare_withdraw(&mut desk, party),
-                _ => compare_step(&mut desk, party),
+        for nap in [1, 2, 3, 255] {
+            let mut desk = fresh_with_nap(n, nap);
+            for _ in 0..1500 {
+                compare_call(&mut draw, &mut desk);
             }
         }
     }

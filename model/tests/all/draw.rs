@@ -93,6 +93,24 @@ impl Draw {
         }
     }
 
+    /// A nap length: short ones and the longest, or none, or anything.
+    fn nap(&mut self) -> u8 {
+        match self.is_wild() {
+            true if self.random.one_in(2) => 0,
+            true => self.random.below(256) as u8,
+            false => [1, 2, 3, 255][self.random.below(4)],
+        }
+    }
+
+    /// Steps made in a nap of this length, often the first or the last count
+    /// of it, or anything.
+    fn steps_made(&mut self, nap: u8) -> u8 {
+        match self.is_wild() || nap == 0 {
+            true => self.random.below(256) as u8,
+            false => [0, nap - 1, self.random.below(nap.into()) as u8][self.random.below(3)],
+        }
+    }
+
     fn place(&mut self, desk: &Desk, party: usize) -> Place {
         let guards = &desk.parties[party].guards;
         let own = self.index(guards.len());
@@ -110,7 +128,7 @@ impl Draw {
             5 => Place::Posting,
             6 => Place::Opening,
             7 => Place::Showing,
-            8 => Place::Asleep,
+            8 => Place::Asleep(self.steps_made(desk.nap)),
             9 => Place::Waiting,
             _ => Place::Met(indexed(own, self.message())),
         }
@@ -131,6 +149,7 @@ impl Draw {
         };
         let mut desk = Desk {
             n,
+            nap: self.nap(),
             next_ticket: Ticket(next),
             parties: (0..records).map(|party| self.party(party, n)).collect(),
         };

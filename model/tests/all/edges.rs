@@ -5,10 +5,10 @@ use model::{Desk, Guard, Message, Outcome, Place, Refusal, Ticket};
 
 #[test]
 fn party_counts() {
-    assert_eq!(Desk::new(0), Err(Refusal::PartyCount));
-    assert_eq!(Desk::new(1), Err(Refusal::PartyCount));
-    assert_eq!(Desk::new(33), Err(Refusal::PartyCount));
-    assert_eq!(Desk::new(usize::MAX), Err(Refusal::PartyCount));
+    assert_eq!(Desk::new(0, 1), Err(Refusal::PartyCount));
+    assert_eq!(Desk::new(1, 1), Err(Refusal::PartyCount));
+    assert_eq!(Desk::new(33, 1), Err(Refusal::PartyCount));
+    assert_eq!(Desk::new(usize::MAX, 1), Err(Refusal::PartyCount));
     for n in [2, 32] {
         let desk = fresh(n);
         assert_eq!((desk.n, desk.parties.len()), (n, n));

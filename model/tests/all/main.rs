@@ -1,5 +1,5 @@
 //! All tests of the model in one program. Expected values come from document 01
-//! and requests 1 and 2 of document 02, or from the reasoning written beside
+//! and requests 1 to 3 of document 02, or from the reasoning written beside
 //! them.
 
 mod book;
@@ -9,6 +9,7 @@ mod draw;
 mod edges;
 mod form;
 mod kinds;
+mod nap;
 mod orders;
 mod program;
 mod refusals;

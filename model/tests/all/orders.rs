@@ -1,6 +1,6 @@
 //! Every order of calls, for a few small sets of offers and withdrawals.
 
-use crate::tools::{fresh, of_kind, receive, send};
+use crate::tools::{fresh_with_nap, of_kind, receive, send};
 use model::{Book, Call, Desk, Guard, Message, Moment, Ticket, Told};
 use std::collections::BTreeSet;
 
@@ -17,9 +17,9 @@ struct Scene<'a> {
 type End = (usize, usize, usize);
 
 impl<'a> Scene<'a> {
-    fn new(plans: &'a [Vec<Call>]) -> Scene<'a> {
+    fn new(plans: &'a [Vec<Call>], nap: u8) -> Scene<'a> {
         Scene {
-            desk: fresh(plans.len()),
+            desk: fresh_with_nap(plans.len(), nap),
             book: Book::default(),
             plans: plans.iter().map(Vec::as_slice).collect(),
         }
@@ -75,10 +75,18 @@ impl<'a> Scene<'a> {
     }
 }
 
+/// The ends with the shortest nap, which a longer one leaves as they are: the
+/// earlier steps of a nap show nothing to others, and can be made in a row.
+fn ends(plans: &[Vec<Call>]) -> BTreeSet<End> {
+    let ends = ends_with_nap(plans, 1);
+    assert_eq!(ends_with_nap(plans, 2), ends);
+    ends
+}
+
 /// Checks every scene that some order of calls reaches, and gives the ends of
 /// those that are over.
-fn ends(plans: &[Vec<Call>]) -> BTreeSet<End> {
-    let start = Scene::new(plans);
+fn ends_with_nap(plans: &[Vec<Call>], nap: u8) -> BTreeSet<End> {
+    let start = Scene::new(plans, nap);
     let mut seen = BTreeSet::from([format!("{start:?}")]);
     let mut to_do = vec![start];
     let mut ends = BTreeSet::new();

@@ -18,7 +18,7 @@ fn busy_places() -> Vec<Place> {
         Place::Posting,
         Place::Opening,
         Place::Showing,
-        Place::Asleep,
+        Place::Asleep(0),
         Place::Waiting,
         Place::Met(indexed(0, Message::Nothing)),
     ]
@@ -213,6 +213,7 @@ fn refusals_have_the_numbers_of_the_documents() {
         (Refusal::TicketsUsedUp, 12),
         (Refusal::NotMet, 13),
         (Refusal::NothingOffered, 14),
+        (Refusal::Nap, 15),
     ];
     for (refusal, number) in numbers {
         assert_eq!(refusal.number(), number);

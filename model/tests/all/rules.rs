@@ -53,7 +53,7 @@ fn check_place(desk: &Desk, answer: &str, place: Place) {
 
 #[test]
 fn rules_1_and_2_start_at_the_first_enabled_guard() {
-    for start in [Place::Entering, Place::Asleep] {
+    for start in [Place::Entering, Place::Asleep(0)] {
         let mut desk = desk_with_party_1_at(start);
         check_place(&desk, "A0", Place::Scanning(0));
         desk.parties[1].guards = vec![disabled(receive(0)), receive(2)];
@@ -84,7 +84,7 @@ fn rules_3_to_6_go_by_the_partners_word() {
     // Party 1's ticket is 20: the partner is older, equal or younger.
     for ticket in [19, 20, 21] {
         // Rule 3. Guard 1 is disabled, so the next one is 2.
-        for place in [Place::Idle, Place::Entering, met, Place::Asleep] {
+        for place in [Place::Idle, Place::Entering, met, Place::Asleep(0)] {
             check_scan(place, ticket, "A2", Place::Scanning(2));
         }
         // Rule 4.
@@ -99,8 +99,8 @@ fn rules_3_to_6_go_by_the_partners_word() {
         Place::Showing,
     ] {
         // Rule 5.
-        check_scan(place, 19, "S", Place::Asleep);
-        check_scan(place, 0, "S", Place::Asleep);
+        check_scan(place, 19, "S", Place::Asleep(0));
+        check_scan(place, 0, "S", Place::Asleep(0));
         // Rule 6: an equal ticket is not smaller.
         check_scan(place, 20, "=", Place::Scanning(0));
         check_scan(place, 21, "=", Place::Scanning(0));
@@ -135,7 +135,12 @@ fn rule_7_commits() {
         }
     };
     // Neither the word nor the place of the partner is looked at again.
-    for place in [Place::Waiting, Place::Showing, Place::Idle, Place::Asleep] {
+    for place in [
+        Place::Waiting,
+        Place::Showing,
+        Place::Idle,
+        Place::Asleep(0),
+    ] {
         let mut desk = desk_with_party_1_at(Place::Trying(0));
         desk.parties[0].place = place;
         desk.parties[0].wake_count = 0;

@@ -1,6 +1,6 @@
 //! Many random lists of calls, each compared with the book along the run.
 
-use crate::tools::{fresh, Xorshift};
+use crate::tools::{fresh_with_nap, Xorshift};
 use model::{
     Action, Answer, Book, Call, Desk, Entry, Given, Guard, Message, Moment, Place, Refusal, Ticket,
     Told, Withdrawal,
@@ -19,9 +19,9 @@ struct Run {
 }
 
 impl Run {
-    fn new(n: usize) -> Run {
+    fn new(n: usize, nap: u8) -> Run {
         Run {
-            desk: fresh(n),
+            desk: fresh_with_nap(n, nap),
             book: Book::default(),
             closed: BTreeSet::new(),
             rests: 0,
@@ -188,8 +188,8 @@ fn random_call(random: &mut Xorshift, n: usize) -> Call {
     }
 }
 
-fn run_once(random: &mut Xorshift, n: usize, calls: usize) -> Run {
-    let mut run = Run::new(n);
+fn run_once(random: &mut Xorshift, n: usize, nap: u8, calls: usize) -> Run {
+    let mut run = Run::new(n, nap);
     for _ in 0..4 {
         for _ in 0..calls {
             let call = random_call(random, n);
@@ -210,7 +210,8 @@ fn run_from_seed(seed: u64, parties: &RangeInclusive<usize>, calls: usize) -> Ru
         random.word();
     }
     let n = parties.start() + random.below(parties.end() - parties.start() + 1);
-    run_once(&mut random, n, calls)
+    let nap = [1, 2, 3, 255][random.below(4)];
+    run_once(&mut random, n, nap, calls)
 }
 
 /// Runs the seeds; the counts make sure that the comparison is not empty.
@@ -242,5 +243,5 @@ fn random_runs_of_some_parties_agree_with_the_book() {
 
 #[test]
 fn random_runs_of_many_parties_agree_with_the_book() {
-    check_runs(2000..2006, 30..=32, 800);
+    check_runs(2005..2012, 30..=32, 800);
 }

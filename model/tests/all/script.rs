@@ -53,12 +53,14 @@ fn line_length() {
 
 /// Parted by bars; the first one is the empty line.
 const MALFORMED_COMMANDS: &str = "\
-    | |n|n |n 2 | n 2|n  2|n\t2|n 2 2|n 2\r|N 2|n2|n 02|n 00|n 256|n 1000|n -1|n -0|\
+    | |n|n |n 2 | n 2|n  2|n\t2|n 2\r|N 2|n2|n 02|n 00|n 256|n 1000|n -1|n -0|\
     n +2|n 2.|n a|n 18446744073709551618|n 4294967298|n 0x2|nn 2|q 0|x 8|=|o|o |o 0 | o 0 1?|\
     o  0 1?|o 0  1?|o 0 1? |o 00 1?|o 256 1?|o -0 1?|o 1?|O 0 1?|s|s |s 0 |s 0 0|s 00|\
     s 01|s 256|s -1|S 0|s0|c|c 0 0|c 00|c 999|C 0|m |m 0| m|M|mm|n 2n|s ?|w|w |w 0 |w 0 1|\
     w  0| w 0|w 00|w 01|w 256|w 999|w -1|w -0|w +0|W 0|w0|w7|w-1|ww 0|w ?|w 1!w7|w ok|\
-    n 2:0|o:0 0 1?|o 0:0 1?|o 0 :0|o 0 1? :0|o 0 1?: 0|s 0:0|s:0 0|c 0:0|w 0:0|m:0|:0|:";
+    n 2:0|n 2 1 |n 2  1|n 2 1 1|n 2 0 1|n 2 1 0|n 2 00|n 2 01|n 2 256|n 2 1000|n 2 -1|n 2 +1|\
+    n 2 1.|n 2 a|n 2 1:0|n 2,1|n 2\t1|n 2 4294967297|\
+    o:0 0 1?|o 0:0 1?|o 0 :0|o 0 1? :0|o 0 1?: 0|s 0:0|s:0 0|c 0:0|w 0:0|m:0|:0|:";
 
 /// Parted by bars.
 const MALFORMED_GUARDS: &str = "\

@@ -66,8 +66,13 @@ pub fn indexed(index: usize, message: Message) -> IndexedMessage {
     IndexedMessage { index, message }
 }
 
+/// A fresh desk with the shortest nap.
 pub fn fresh(n: usize) -> Desk {
-    Desk::new(n).expect("2 to 32 parties are made")
+    fresh_with_nap(n, 1)
+}
+
+pub fn fresh_with_nap(n: usize, nap: u8) -> Desk {
+    Desk::new(n, nap).expect("2 to 32 parties with a nap of 1 or more are made")
 }
 
 /// Steps one party and gives the answers as the script writes them.

@@ -50,7 +50,7 @@ fn words_follow_from_places() {
         (Place::Posting, Word::Alt),
         (Place::Opening, Word::Alt),
         (Place::Showing, Word::Alt),
-        (Place::Asleep, Word::Sleeping),
+        (Place::Asleep(0), Word::Sleeping),
         (Place::Waiting, Word::Waiting),
     ];
     for (place, word) in table {
@@ -115,7 +115,7 @@ fn open_offers_follow_from_place_and_wake_count() {
         (Place::Posting, true, true),
         (Place::Opening, true, true),
         (Place::Showing, true, false),
-        (Place::Asleep, true, true),
+        (Place::Asleep(0), true, true),
         (Place::Waiting, true, false),
         (met, false, false),
     ];

@@ -21,7 +21,7 @@ fn table() -> [(Place, Answer, Answer); 11] {
         (Place::Posting, withdrawn, withdrawn),
         (Place::Opening, withdrawn, withdrawn),
         (Place::Showing, withdrawn, late),
-        (Place::Asleep, withdrawn, withdrawn),
+        (Place::Asleep(0), withdrawn, withdrawn),
         (Place::Waiting, withdrawn, late),
         (Place::Met(indexed(1, SEVEN)), refused, refused),
     ]

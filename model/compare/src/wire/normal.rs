@@ -67,12 +67,13 @@ fn one_nan_of(guard: Guard) -> Guard {
 mod tests {
     use super::super::{decode, encode};
     use super::*;
-    use crate::rendezvous::{GUARD_ENABLED, GUARD_KIND, RECORD_OUTCOME, RECORD_OWN, RECORD_PLACE};
+    use crate::rendezvous::{GUARD_ENABLED, GUARD_KIND, HEAD_NAP, RECORD_INDEX, RECORD_KEPT};
+    use crate::rendezvous::{RECORD_OUTCOME, RECORD_OWN, RECORD_PLACE};
     use model::Desk;
 
     #[test]
     fn what_is_written_is_normal_but_for_its_nans() {
-        let mut desk = Desk::new(2).expect("two is a good number");
+        let mut desk = Desk::new(2, 1).expect("both are good numbers");
         desk.parties[0].place = Place::Met(IndexedMessage {
             index: 0,
             message: Message::Reading(f32::from_bits(0xff80_0001)),
@@ -102,6 +103,23 @@ mod tests {
         };
         assert_eq!(record.place, Place::Met(outcome));
         assert_eq!(normal(&table).bytes()[HEAD_BYTES..][..4], [10, 0, 0, 3]);
+    }
+
+    #[test]
+    fn naps_and_steps_of_sleepers_are_kept_whatever_they_are() {
+        for (nap, steps) in [(0, 0), (0, 255), (1, 1), (255, 254), (255, 255)] {
+            let mut table = Table::zero();
+            table.bytes_mut()[HEAD_NAP] = nap;
+            let record = &mut table.bytes_mut()[HEAD_BYTES..];
+            record[RECORD_PLACE] = 8;
+            record[RECORD_INDEX] = steps;
+            assert_eq!(decode(&table).nap, nap);
+            assert_eq!(decode(&table).parties[0].place, Place::Asleep(steps));
+            assert_eq!(normal(&table), table);
+            // Only C has a kept index.
+            table.bytes_mut()[HEAD_BYTES + RECORD_KEPT] = 1;
+            assert_eq!(normal(&table).bytes()[HEAD_BYTES + RECORD_KEPT], 0);
+        }
     }
 
     #[test]

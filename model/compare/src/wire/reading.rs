@@ -11,6 +11,7 @@ pub fn decode(table: &Table) -> Desk {
     let mut input = Reader(table.bytes());
     Desk {
         n: input.index(),
+        nap: input.byte(),
         next_ticket: Ticket(input.word()),
         parties: (0..PROCESSES).map(|_| record(&mut input)).collect(),
     }
@@ -56,7 +57,8 @@ fn record(input: &mut Reader) -> Party {
 }
 
 pub fn place(input: &mut Reader) -> Place {
-    let (tag, own, kept) = (input.byte(), input.index(), input.index());
+    let (tag, second, kept) = (input.byte(), input.byte(), input.index());
+    let own = usize::from(second);
     let message = message(input);
     match tag {
         0 => Place::Idle,
@@ -67,7 +69,7 @@ pub fn place(input: &mut Reader) -> Place {
         5 => Place::Posting,
         6 => Place::Opening,
         7 => Place::Showing,
-        8 => Place::Asleep,
+        8 => Place::Asleep(second),
         9 => Place::Waiting,
         _ => Place::Met(IndexedMessage {
             index: own,

@@ -70,6 +70,11 @@ mod tests {
     use crate::rendezvous::RECORD_SIGNAL;
 
     #[test]
+    fn a_table_is_as_long_as_the_document_says() {
+        assert_eq!(Table::zero().bytes().len(), 7622);
+    }
+
+    #[test]
     fn a_difference_is_told_by_record_and_byte() {
         let (one, mut other) = (Table::zero(), Table::zero());
         assert_eq!(one.first_difference(&other), None);

@@ -8,6 +8,7 @@ use model::{Desk, Guard, IndexedMessage, Message, Party, Place};
 pub fn encode(desk: &Desk) -> Table {
     let mut out = Vec::with_capacity(TABLE_BYTES);
     out.push(desk.n as u8);
+    out.push(desk.nap);
     out.extend(desk.next_ticket.0.to_le_bytes());
     let fresh = Party::fresh();
     for number in 0..PROCESSES {
@@ -37,7 +38,7 @@ pub fn put_place(out: &mut Vec<u8>, place: Place) {
         Place::Posting => (5, 0, 0, Message::Nothing),
         Place::Opening => (6, 0, 0, Message::Nothing),
         Place::Showing => (7, 0, 0, Message::Nothing),
-        Place::Asleep => (8, 0, 0, Message::Nothing),
+        Place::Asleep(steps) => (8, usize::from(steps), 0, Message::Nothing),
         Place::Waiting => (9, 0, 0, Message::Nothing),
         Place::Met(outcome) => (10, outcome.index, 0, outcome.message),
     };
@@ -82,7 +83,7 @@ pub fn put_message(out: &mut Vec<u8>, message: Message) {
 mod tests {
     use super::*;
     use crate::rendezvous::{of_kind, receives, sends};
-    use crate::rendezvous::{GUARD_BYTES, GUARD_MESSAGE, HEAD_BYTES, HEAD_COUNT};
+    use crate::rendezvous::{GUARD_BYTES, GUARD_MESSAGE, HEAD_BYTES, HEAD_COUNT, HEAD_NAP};
     use crate::rendezvous::{HEAD_NEXT, MESSAGE_BYTES, MESSAGE_VARIANT, RECORD_ACCEPTING};
     use crate::rendezvous::{LIMIT, NOTHING, READING, WHOLE};
     use crate::rendezvous::{RECORD_BYTES, RECORD_COUNTS, RECORD_INDEX, RECORD_KEPT};
@@ -91,15 +92,16 @@ mod tests {
     use model::{Action, Ticket};
 
     #[test]
-    fn a_fresh_table_is_n_and_zeros() {
-        let table = encode(&Desk::new(7).expect("seven is a good number"));
+    fn a_fresh_table_is_n_the_nap_and_zeros() {
+        let table = encode(&Desk::new(7, 255).expect("both are good numbers"));
         assert_eq!(table.bytes()[HEAD_COUNT], 7);
+        assert_eq!(table.bytes()[HEAD_NAP], 255);
         assert!(table.bytes()[HEAD_NEXT..].iter().all(|&byte| byte == 0));
     }
 
     #[test]
     fn the_fields_stand_where_they_should() {
-        let mut desk = Desk::new(2).expect("two is a good number");
+        let mut desk = Desk::new(2, 9).expect("both are good numbers");
         desk.next_ticket = Ticket(0x0403_0201);
         let limit = Message::Limit {
             low: 1.0,
@@ -116,7 +118,7 @@ mod tests {
         let table = encode(&desk);
         let (head, records) = table.bytes().split_at(HEAD_BYTES);
         let bytes = &records[RECORD_BYTES..];
-        assert_eq!(head, [2, 1, 2, 3, 4]);
+        assert_eq!(head, [2, 9, 1, 2, 3, 4]);
         assert_eq!(bytes[RECORD_PLACE], 4);
         assert_eq!(bytes[RECORD_INDEX], 3);
         assert_eq!(bytes[RECORD_KEPT], 7);
@@ -126,6 +128,17 @@ mod tests {
         assert_eq!(bytes[RECORD_SIGNAL_MESSAGE..RECORD_TICKET], signalled);
         assert_eq!(bytes[RECORD_TICKET..RECORD_ACCEPTING], [6, 0, 0, 0]);
         assert_eq!(bytes[RECORD_ACCEPTING], 1);
+    }
+
+    #[test]
+    fn a_sleepers_steps_have_the_byte_of_an_index() {
+        let mut desk = Desk::new(2, 255).expect("both are good numbers");
+        desk.parties[0].place = Place::Asleep(254);
+        let table = encode(&desk);
+        let record = &table.bytes()[HEAD_BYTES..][..RECORD_BYTES];
+        let used = (0..RECORD_BYTES).filter(|&at| record[at] != 0);
+        assert_eq!(used.collect::<Vec<_>>(), [RECORD_PLACE, RECORD_INDEX]);
+        assert_eq!(record[RECORD_PLACE..=RECORD_INDEX], [8, 254]);
     }
 
     #[test]
@@ -142,7 +155,7 @@ mod tests {
             kind: 0,
             action: Action::Receive,
         };
-        let mut desk = Desk::new(2).expect("two is a good number");
+        let mut desk = Desk::new(2, 1).expect("both are good numbers");
         desk.parties[0].guards = vec![receiving];
         desk.parties[0].posted = vec![sending, receiving];
         let table = encode(&desk);

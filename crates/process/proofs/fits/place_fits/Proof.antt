@@ -14,6 +14,9 @@ returns-3 c = rw (c .before .place3 .given .1)
 returns-4 : tie.Need-returns-4
 returns-4 c = rw (c .before .place4 .given .1)
 
+returns-5 : tie.Need-returns-5
+returns-5 c = rw (c .before .place5 .given .1)
+
 pub place-fits-spec : {M : Type 1} → statement M
 place-fits-spec =
     tie.close
@@ -33,7 +36,7 @@ place-fits-spec =
     returns-2
     returns-3
     returns-4
-    (λ c. search needs)
+    returns-5
     (λ c. search needs)
     (λ c. search needs)
     (λ c. search needs)

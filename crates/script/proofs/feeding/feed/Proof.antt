@@ -86,13 +86,13 @@ called c =
 
 -- .. and then what is about the whole table
 has : (c : tie.Joined4 Inv-loop2 μ-loop2 Inv-loop μ-loop) → let h = atCommand (atAct (c .before)) in let p = h .heard .result in
-    let l = inTurn h .before .loop in Has (l .made) (l .table) (p .verb) (p .number) (p .list) (c .if4 .made) (record { answer = c .if4 .answer; table = c .if4 .table })
+    let l = inTurn h .before .loop in Has (l .made) (l .table) (p .verb) (p .number) (p .nap) (p .list) (c .if4 .made) (record { answer = c .if4 .answer; table = c .if4 .table })
 has c =
     let new = c .before .is-new .ensures in
     let is = called (atAct (c .before)) in
-    ⊎-elim (λ w. rw (w .4, w .5, w .6) (has-new _ _ _ _ _ (carriedOut (atAct (c .before))) is (sym new ∙ w .0 .taken) _ _ (w .1 .ensures) (rw (w .3 .ensures) refl)))
-    (⊎-elim (λ w. rw (w .4, w .5, w .6) (has-movers _ _ _ _ _ (carriedOut (atAct (c .before))) is (sym new ∙ w .0 .left) (sym (w .1 .ensures) ∙ w .2 .taken) _ (w .3 .ensures)))
-    (λ w. rw (w .3, w .4, w .5) (has-called _ _ _ _ _ _ is (sym new ∙ w .0 .left) (sym (w .1 .ensures) ∙ w .2 .left))))
+    ⊎-elim (λ w. rw (w .4, w .5, w .6) (has-new _ _ _ _ _ _ (carriedOut (atAct (c .before))) is (sym new ∙ w .0 .taken) _ _ (w .1 .ensures) (rw (w .3 .ensures) refl)))
+    (⊎-elim (λ w. rw (w .4, w .5, w .6) (has-movers _ _ _ _ _ _ (carriedOut (atAct (c .before))) is (sym new ∙ w .0 .left) (sym (w .1 .ensures) ∙ w .2 .taken) _ (w .3 .ensures)))
+    (λ w. rw (w .3, w .4, w .5) (has-called _ _ _ _ _ _ _ is (sym new ∙ w .0 .left) (sym (w .1 .ensures) ∙ w .2 .left))))
     (c .if4 .came)
 
 sized : (c : tie.Joined4 Inv-loop2 μ-loop2 Inv-loop μ-loop) → Sized (c .if4 .table)

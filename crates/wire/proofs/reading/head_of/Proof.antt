@@ -5,7 +5,7 @@ use Rattle.wire.proofs.reading.head_of.Tie as tie
 
 returns : tie.Need-returns
 unfolding headOf
-returns c = rw (c .byte-at .ensures, c .before .word-of .ensures, c .before .before .from .ensures)
+returns c = rw (c .before .byte-at .ensures, c .byte-at2 .ensures, c .before .before .word-of .ensures, c .before .before .before .from .ensures)
 
 pub head-of-spec : {M : Type 1} → statement M
-head-of-spec = tie.close (tie.spec (λ c κs. search needs) (λ c κs. search needs) (λ c κs. search needs) returns)
+head-of-spec = tie.close (tie.spec (λ c κs. search needs) (λ c κs. search needs) (λ c κs. search needs) (λ c κs. search needs) returns)

@@ -40,7 +40,7 @@ returns-8 c = rw (sym (c .before .byte-at2 .ensures) ∙ c .match .keys8)
 
 returns-9 : tie.Need-returns-9
 unfolding placeOf
-returns-9 c = rw (sym (c .before .byte-at2 .ensures) ∙ c .match .keys9)
+returns-9 c = rw (c .before .before .byte-at .ensures, sym (c .before .byte-at2 .ensures) ∙ c .match .keys9)
 
 returns-10 : tie.Need-returns-10
 unfolding placeOf

@@ -37,15 +37,15 @@ returns-8 c = rw (c .before .enum-told5 .given .1) (c .three-and-message8 .ensur
 
 returns-9 : tie.Need-returns-9
 unfolding placeBytes
-returns-9 c = rw (c .before .enum-told6 .given .1) (c .three-and-message9 .ensures)
+returns-9 c = rw (c .before .before .place4 .given .1) (c .three-and-message9 .ensures)
 
 returns-10 : tie.Need-returns-10
 unfolding placeBytes
-returns-10 c = rw (c .before .enum-told7 .given .1) (c .three-and-message10 .ensures)
+returns-10 c = rw (c .before .enum-told6 .given .1) (c .three-and-message10 .ensures)
 
 returns-11 : tie.Need-returns-11
 unfolding placeBytes
-returns-11 c = rw (c .before .before .place4 .given .1) (c .three-and-message11 .ensures)
+returns-11 c = rw (c .before .before .place5 .given .1) (c .three-and-message11 .ensures)
 
 pub place-bytes-spec : {M : Type 1} → statement M
 place-bytes-spec =
