@@ -34,24 +34,24 @@ fn fresh_table(n: u8, nap: u8) -> ProcessTable
     }
 }
 
-// An answer beside a fresh table. The reply is made at one place, or the table would be copied.
-fn fresh_reply(answer: Answer, n: u8, nap: u8) -> Reply
-    ensures { λ r. ⌜ r ≡ record { answer = answer; table = freshTable n nap } ⌝ }
-{
-    Reply {
-        answer: answer,
-        table: fresh_table(n, nap),
-    }
-}
-
 impl ProcessTable {
-    // A fresh table of n processes with naps of `nap` own steps, or refusal 1 or 15.
+    // A fresh table of n processes with naps of `nap` own steps, or refusal 1 or 15. The table is made at one place, or it would be copied.
     pub fn create(n: u8, nap: u8) -> Reply
         ensures { λ r. ⌜ r ≡ create n nap ⌝ }
     {
+        let mut answer = Answer::Made;
+        let mut table = fresh_table(n, nap);
         match create_verdict(n, nap) {
-            Verdict::Accepted => fresh_reply(Answer::Made, n, nap),
-            Verdict::Refused(refusal) => fresh_reply(Answer::Refused(refusal), 0, 0),
+            Verdict::Accepted => {}
+            Verdict::Refused(refusal) => {
+                let head = fresh_head(0, 0);
+                answer = Answer::Refused(refusal);
+                table.head = head;
+            }
+        }
+        Reply {
+            answer: answer,
+            table: table,
         }
     }
 }
