@@ -5,7 +5,7 @@ use mathlib.Core.Option.{Option, some, none}
 use Rattle.alternative.specs.Guards.{lent}
 use Rattle.command.specs.Types.{Offer, Step, Collect, Withdraw, Command, New, Do, Movers, Verb, Parsed}
 
--- a command without guards
+-- a command of a number alone, or of none
 abbrev pub plain : Verb → ℕ → Parsed
 plain verb number = record { verb = verb; number = number; nap = 0; list = lent [] }
 
