@@ -8,7 +8,7 @@ use lib.ListN.{replicate}
 use lib.Dec.{ltb}
 use lib.Ieee.{ofBits}
 use borrow.Author.Tests.{le-leb, lt-ltb, le-ltb}
-use Rattle.alternative.specs.Guards.{guardsMatch, anyGuard, firstFrom, keptMatch, nextEnabled, slots, lent}
+use Rattle.alternative.specs.Guards.{guardsMatch, anyGuard, offersMatch, firstFrom, keptMatch, nextEnabled, slots, lent}
 use Rattle.alternative.specs.declared.Guard.{Guard}
 use Rattle.process.specs.declared.{Signal.Signal, Place.Place, Process.Process}
 use Rattle.process.specs.Process.{freshProcess}
@@ -22,9 +22,14 @@ use Rattle.rendezvous.specs.Calls.{ifAccepted, create, entering, offered, offer
 use Rattle.rendezvous.specs.Movers.{setBelow, runnableSet, runnable}
 use Rattle.rendezvous.specs.Run.{Offer, Step, replyTo, tableAfter, afterAll, tableAfterAll}
 use Rattle.rendezvous.specs.Commands.{replyToCommand}
-use Rattle.history.specs.Cases.{receive, send, allSaid}
+use Rattle.history.specs.Cases.{Hold, receive, send, allSaid}
 use Rattle.history.specs.Further.{by-hand, table}
 use Rattle.history.specs.NapCases.{withNap, crossing, crossingCalls, stories, NapCases}
+
+-- the computation, before all that rests on lemmas: with a definition under which a case comes out otherwise it fails first
+stories-hold : Hold stories
+unfolding guardsMatch anyGuard firstFrom keptMatch nextEnabled slots lent scanFrom handOver rule allGuards allBelow countFits napFits partnerFits listFits processFits fitsAt wellFormed requireGuards createVerdict tableVerdict processVerdict listVerdict stateVerdict offerVerdict withdrawVerdict create entering offered offerList effectOn stepped step collect withdraw setBelow runnableSet runnable replyTo afterAll replyToCommand allSaid stories flatten ofBits lib.Ieee.isNan
+stories-hold = refl
 
 -- a step of a well-formed table is the rule's
 whole : (t : ProcessTable) (p : ℕ) → wellFormed t ≡ true → ltb p (t .head .n) ≡ true → step t p ≡ stepped t p
@@ -131,5 +136,5 @@ module _ (d : ℕ) (naps : 1 ≤ d) where
       ∙ second-enters
 
 pub nap-cases-hold : NapCases
-unfolding guardsMatch anyGuard firstFrom keptMatch nextEnabled slots lent scanFrom handOver rule allGuards allBelow countFits napFits partnerFits listFits processFits fitsAt wellFormed requireGuards createVerdict tableVerdict processVerdict listVerdict stateVerdict offerVerdict withdrawVerdict create entering offered offerList effectOn stepped step collect withdraw setBelow runnableSet runnable replyTo afterAll replyToCommand allSaid stories flatten ofBits lib.Ieee.isNan
-nap-cases-hold = record { cases = refl; counts = refl; begins = refl; reached = reached; endless = endless }
+unfolding guardsMatch anyGuard offersMatch firstFrom keptMatch nextEnabled slots lent scanFrom handOver rule allGuards allBelow countFits napFits partnerFits listFits processFits fitsAt wellFormed requireGuards createVerdict tableVerdict processVerdict listVerdict stateVerdict offerVerdict withdrawVerdict create entering offered offerList effectOn stepped step collect withdraw setBelow runnableSet runnable replyTo afterAll replyToCommand allSaid stories flatten ofBits lib.Ieee.isNan
+nap-cases-hold = record { cases = stories-hold; counts = refl; begins = refl; matching = λ d. refl; reached = reached; endless = endless }

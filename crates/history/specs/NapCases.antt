@@ -1,13 +1,14 @@
 -- To be believed. CR 3 of document 02, by cases: which tables are made, naps of three steps and of two, sleepers on tables that no call leaves, and what an early step leaves behind; and, for every length, an order of
 -- steps that settles nothing.
 use mathlib.Core.List.{map, flatten}
+use Rattle.alternative.specs.Guards.{offersMatch}
 use Rattle.process.specs.declared.Signal.{Signal}
-use Rattle.process.specs.Process.{freshProcess}
-use Rattle.rendezvous.specs.Table.{freshTable}
+use Rattle.process.specs.Process.{freshProcess, ownList}
+use Rattle.rendezvous.specs.Table.{process, freshTable}
 use Rattle.rendezvous.specs.Numbers.{Said, made, ticket, same, outcome, withdrawn, movers, refusal}
 use Rattle.rendezvous.specs.Run.{Call, Offer, Step, tableAfter, tableAfterAll}
 use Rattle.rendezvous.specs.Commands.{Command, New, Do, Movers}
-use Rattle.history.specs.Types.{ℕ, suc, _≤_, _≡_, false, List, [], _∷_, _++_, some, none, replicate, Message, Place, ProcessTable}
+use Rattle.history.specs.Types.{ℕ, suc, _≤_, _≡_, true, false, List, [], _∷_, _++_, some, none, replicate, Message, Place, ProcessTable}
 use Rattle.history.specs.Cases.{Case, Hold, case, offers, steps, collects, receive, send, disabled, reading, at}
 use Rattle.history.specs.Further.{by-hand, table}
 use Rattle.history.specs.Withdrawals.{withdraws}
@@ -84,5 +85,7 @@ pub record NapCases : Type 0 where
   pub counts : tableAfter (asleep 3 0) (Step 0) ≡ asleep 3 1
   pub begins : tableAfter (crossing 3 (Place.Scanning 0)) (Step 1) ≡ crossing 3 (Place.Asleep 0)
   -- No length ends every order. Two processes that cross come to this table, and with naps of d, d + 1 steps of process 1 and one of 0 bring it back, and so for ever. With d = 1 the order is s 1, s 1, s 0.
+  -- Their offers match on it.
+  pub matching : (d : ℕ) → let t = crossing d (Place.Scanning 0) in offersMatch 0 (ownList (process t 0)) 1 (ownList (process t 1)) ≡ true
   pub reached : (d : ℕ) → 1 ≤ d → tableAfterAll (freshTable 2 d) crossingCalls ≡ crossing d (Place.Scanning 0)
   pub endless : (d : ℕ) → 1 ≤ d → tableAfterAll (crossing d (Place.Scanning 0)) (replicate (suc d) (Step 1) ++ (Step 0 ∷ [])) ≡ crossing d (Place.Scanning 0)
