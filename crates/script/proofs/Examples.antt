@@ -12,7 +12,8 @@ use Rattle.rendezvous.specs.Movers.{setBelow, runnableSet, runnable}
 use Rattle.rendezvous.specs.Run.{replyTo}
 use Rattle.rendezvous.specs.Commands.{replyToCommand}
 use Rattle.text.specs.Ascii.{bytes}
-use Rattle.text.specs.Reading.{decimalFrom, decimal, byteNumber, whole, hexDigit, hexFrom, hexWord}
+use Rattle.text.specs.Digits.{placeFrom, hexDigit, hexGlyph}
+use Rattle.text.specs.Reading.{decimalFrom, decimal, byteNumber, whole, hexFrom, hexWord}
 use Rattle.text.specs.Writing.{decimalUpTo, wholeText, hexUpTo}
 use Rattle.command.specs.Commands.{fields, wholeIn, readingIn, limitIn, messageBy, messageIn, sendIn, actionBy, actionIn, leading, guardFrom, plainGuardIn}
 use Rattle.command.specs.Commands.{kindIn, guardIn, guardsIn, numberIn, napIn, newIn, offerIn, numbered, byLetter, commandIn, commandOf}
@@ -22,5 +23,5 @@ use Rattle.script.specs.Session.{replyFrom, answered, turn, printedBy, o
 use Rattle.script.specs.Examples.{offerLine, MarkedSession, CarriedMessages, MalformedLines, ClosedSlots, TwoSensors, Naps}
 
 pub examples-hold : MarkedSession × CarriedMessages × MalformedLines × ClosedSlots × TwoSensors × Naps
-unfolding guardsMatch anyGuard firstFrom keptMatch nextEnabled slots lent scanFrom handOver rule allGuards allBelow countFits napFits partnerFits listFits processFits fitsAt wellFormed requireGuards createVerdict tableVerdict processVerdict listVerdict stateVerdict offerVerdict withdrawVerdict create entering offered offerList effectOn stepped step collect withdraw setBelow runnableSet runnable replyTo replyToCommand decimalFrom decimal byteNumber whole hexDigit hexFrom hexWord decimalUpTo wholeText hexUpTo fields wholeIn readingIn limitIn messageBy messageIn sendIn actionBy actionIn leading guardFrom plainGuardIn kindIn guardIn guardsIn numberIn napIn newIn offerIn numbered byLetter commandIn commandOf messageText answerText linesFrom lineCommand replyFrom answered turn printedBy output bytes offerLine flatten ofBits toBits lib.Ieee.isNan
+unfolding guardsMatch anyGuard firstFrom keptMatch nextEnabled slots lent scanFrom handOver rule allGuards allBelow countFits napFits partnerFits listFits processFits fitsAt wellFormed requireGuards createVerdict tableVerdict processVerdict listVerdict stateVerdict offerVerdict withdrawVerdict create entering offered offerList effectOn stepped step collect withdraw setBelow runnableSet runnable replyTo replyToCommand placeFrom hexDigit hexGlyph decimalFrom decimal byteNumber whole hexFrom hexWord decimalUpTo wholeText hexUpTo fields wholeIn readingIn limitIn messageBy messageIn sendIn actionBy actionIn leading guardFrom plainGuardIn kindIn guardIn guardsIn numberIn napIn newIn offerIn numbered byLetter commandIn commandOf messageText answerText linesFrom lineCommand replyFrom answered turn printedBy output bytes offerLine flatten ofBits toBits lib.Ieee.isNan
 examples-hold = (refl, refl, refl, refl, refl, refl)

@@ -12,10 +12,14 @@ use lib.Dec.{leb}
 use lib.ListN.{length, getD, drop, drop-of-length-le}
 use lib.Seq.{drop-cons}
 use Rattle.text.specs.Types.{_>>=_}
-use Rattle.text.specs.Reading.{within, isDigit, decimalFrom, decimal, provided, byteNumber, whole}
+use Rattle.text.specs.Reading.{isDigit, decimalFrom, decimal, provided, byteNumber, whole}
 use Rattle.text.specs.Private.{inWord, positiveOf, negativeOf}
 
 -- ---- one digit
+-- a byte from one character to another
+abbrev pub within : ℕ → ℕ → ℕ → Bool
+within low high b = leb low b && leb b high
+
 pub within-range : (low high b : ℕ) → within low high b ≡ true → (low ≤ b) × (b ≤ high)
 within-range low high b = go (leb low b) refl
   where

@@ -1,49 +1,76 @@
--- What reading hexadecimal digits one after the other needs of their definition.
-use Prim.Native.Nat.{ℕ, suc, _+_, _-_, _*_, _^_, _<_, _≤_}
+-- What reading and writing hexadecimal digits needs of their definitions.
+use Prim.Native.Nat.{ℕ, zero, suc, _+_, _-_, _*_, _^_, _<_, _≤_}
 use Prim.Native.Char.{code}
-use mathlib.Core.Path.{_≡_, refl, sym, _∙_, ap}
-use mathlib.Core.Bool.{Bool, true, false}
-use mathlib.Core.List.{List, _∷_}
-use mathlib.Core.Option.{Option, some, none, Option·none-ne-some}
+use mathlib.Core.Path.{_≡_, refl, sym, _∙_, ap, subst}
+use mathlib.Core.Bool.{Bool, true, false, cond}
+use mathlib.Core.List.{List, [], _∷_, map}
+use mathlib.Core.Option.{Option, some, none, Option·some-injective, Option·none-ne-some}
 use native.Mathlib.Omega.{arith}
 use native.Mathlib.Nat.{pow-suc, pow-le-pow-right}
 use native.Mathlib.Numerals.{add-one}
 use borrow.Author.Tests.{eq-eqb, ne-eqb}
+use lib.Dec.{eqb}
 use lib.ListN.{length, getD, drop, drop-of-length-le}
 use lib.Seq.{drop-cons}
 use Rattle.text.specs.Types.{_>>=_}
-use Rattle.text.specs.Reading.{within, isDigit, hexDigit, hexFrom, hexWord}
-use Rattle.text.proofs.Decimals.{within-range, digit-range}
+use Rattle.text.specs.Ascii.{bytes}
+use Rattle.text.specs.Digits.{hexDigits, placeFrom, hexDigit, hexGlyph}
+use Rattle.text.specs.Reading.{isDigit, provided, hexFrom, hexWord}
+use Rattle.text.specs.Claims.{numbersFrom}
+use Rattle.text.proofs.Decimals.{within}
 
--- ---- one digit
-pub hex-decimal : (b : ℕ) → isDigit b ≡ true → hexDigit b ≡ some (b - code "0")
-unfolding hexDigit
-hex-decimal b e = rw e
+-- ---- a row computed for k numbers from n on says it of each of them
+each : {A : Type 0} (f g : ℕ → A) (n k i b : ℕ) → map f (numbersFrom n k) ≡ map g (numbersFrom n k) → i < k → n + i ≡ b → f b ≡ g b
+unfolding numbersFrom
+each f g n zero i b e h q = absurd (omega arith)
+each f g n (suc k) zero b e h q =
+    let first : n ≡ b = omega arith in
+    subst (λ (c : ℕ). f c ≡ g c) first (ap (λ (l : List _). getD l 0 (f n)) e)
+each f g n (suc k) (suc i) b e h q = each f g (suc n) k i b (ap (drop 1) e) (omega arith) (omega arith)
 
-pub hex-other : (b : ℕ) → isDigit b ≡ false → within (code "a") (code "f") b ≡ false → hexDigit b ≡ none
-unfolding hexDigit
-hex-other b e g = rw (e, g)
+-- ---- one digit, worked out
+abbrev worked : ℕ → Option ℕ
+worked b = cond (isDigit b) (some (b - code "0")) (provided (within (code "a") (code "f") b) (b - code "a" + 10))
 
-pub hex-letter : (b : ℕ) → isDigit b ≡ false → within (code "a") (code "f") b ≡ true → hexDigit b ≡ some (b - code "a" + 10)
-unfolding hexDigit
-hex-letter b e g = rw (e, g)
+hex-worked : (b : ℕ) → b < 256 → hexDigit b ≡ worked b
+unfolding numbersFrom bytes placeFrom hexDigit
+hex-worked b h = each hexDigit worked 0 256 b b refl h (omega arith)
 
-hex-below-at : (b d : ℕ) (t u : Bool) → isDigit b ≡ t → within (code "a") (code "f") b ≡ u → hexDigit b ≡ some d → d < 16
-hex-below-at b d true u e g h =
-    let r = digit-range b e in
-    let f = hex-decimal b e in
-    let s : b - code "0" ≡ d = cc in
-    omega arith
-hex-below-at b d false true e g h =
-    let r = within-range (code "a") (code "f") b g in
-    let f = hex-letter b e g in
-    let s : b - code "a" + 10 ≡ d = cc in
-    omega arith
-hex-below-at b d false false e g h =
-    absurd (Option·none-ne-some d (sym (hex-other b e g) ∙ h))
+pub hex-decimal : (b : ℕ) → b < 256 → isDigit b ≡ true → hexDigit b ≡ some (b - code "0")
+hex-decimal b h e = hex-worked b h ∙ rw e
+
+pub hex-letter : (b : ℕ) → b < 256 → isDigit b ≡ false → within (code "a") (code "f") b ≡ true → hexDigit b ≡ some (b - code "a" + 10)
+hex-letter b h e g = hex-worked b h ∙ rw (e, g)
+
+pub hex-other : (b : ℕ) → b < 256 → isDigit b ≡ false → within (code "a") (code "f") b ≡ false → hexDigit b ≡ none
+hex-other b h e g = hex-worked b h ∙ rw (e, g)
+
+pub glyph-decimal : (d : ℕ) → d < 10 → hexGlyph d ≡ code "0" + d
+unfolding numbersFrom bytes hexGlyph
+glyph-decimal d h = each hexGlyph (λ e. code "0" + e) 0 10 d d refl h (omega arith)
+
+pub glyph-letter : (d : ℕ) → 10 ≤ d → d < 16 → hexGlyph d ≡ code "a" + (d - 10)
+unfolding numbersFrom bytes hexGlyph
+glyph-letter d l h = each hexGlyph (λ e. code "a" + (e - 10)) 10 6 (d - 10) d refl (omega arith) (omega arith)
+
+pub glyph-back : (d : ℕ) → d < 16 → hexDigit (hexGlyph d) ≡ some d
+unfolding numbersFrom bytes placeFrom hexDigit hexGlyph
+glyph-back d h = each (λ e. hexDigit (hexGlyph e)) some 0 16 d d refl h (omega arith)
+
+-- ---- the place in a row is below its length
+place-below : (i b d : ℕ) (row : List ℕ) → placeFrom i row b ≡ some d → d < i + length row
+unfolding placeFrom
+place-below i b d [] e = absurd (Option·none-ne-some d e)
+place-below i b d (c ∷ row) e = at (eqb b c) (place-below (suc i) b d row) e
+  where
+    at : (t : Bool) → (placeFrom (suc i) row b ≡ some d → d < suc i + length row)
+        → cond t (some i) (placeFrom (suc i) row b) ≡ some d → d < i + suc (length row)
+    at true later e = omega (arith, Option·some-injective i d e)
+    at false later e = omega (arith, later e)
 
 pub hex-below : (b d : ℕ) → hexDigit b ≡ some d → d < 16
-hex-below b d h = hex-below-at b d (isDigit b) (within (code "a") (code "f") b) refl refl h
+unfolding bytes hexDigit
+hex-below b d e = place-below 0 b d hexDigits e
 
 -- ---- the digits from index i on
 hex-from : (a b : ℕ) (bs : List ℕ) (o : Option ℕ) → hexDigit b ≡ o → hexFrom a (b ∷ bs) ≡ _>>=_ o (λ d. hexFrom (a * 16 + d) bs)

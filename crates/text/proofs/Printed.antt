@@ -10,14 +10,8 @@ use lib.Dec.{ltb}
 use lib.IntN.{ℤ, pos, natAbs}
 use lib.ListN.{length, length-append}
 use lib.Signed.{ltZ}
-use Rattle.text.specs.Writing.{decimalUpTo, decimalText, wholeText, hexGlyph, hexUpTo, hexText}
-
--- a decimal digit is written like a hexadecimal one
-pub glyph-decimal : (d : ℕ) → d < 10 → hexGlyph d ≡ code "0" + d
-glyph-decimal d h = rw (lt-ltb d 10 h)
-
-pub glyph-letter : (d : ℕ) → 10 ≤ d → hexGlyph d ≡ code "a" + (d - 10)
-glyph-letter d h = rw (le-ltb d 10 h)
+use Rattle.text.specs.Digits.{hexGlyph}
+use Rattle.text.specs.Writing.{decimalUpTo, decimalText, wholeText, hexUpTo, hexText}
 
 pub decimal-last : (k n : ℕ) → k ≡ 0 → decimalUpTo k n ≡ (code "0" + n % 10) ∷ []
 unfolding decimalUpTo

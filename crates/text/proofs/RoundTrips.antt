@@ -14,12 +14,13 @@ use lib.ListN.{length, getD, List·getD-append, length-append}
 use mir.Syntax.{w32}
 use mir.Val.{SFits}
 use Rattle.text.specs.Types.{_>>=_}
-use Rattle.text.specs.Reading.{isDigit, decimalFrom, decimal, byteNumber, whole, hexDigit, hexFrom, hexWord}
+use Rattle.text.specs.Digits.{hexDigit, hexGlyph}
+use Rattle.text.specs.Reading.{isDigit, decimalFrom, decimal, byteNumber, whole, hexFrom, hexWord}
 use Rattle.text.specs.Private.{inWord, positiveOf, negativeOf}
-use Rattle.text.specs.Writing.{decimalUpTo, decimalText, wholeText, hexGlyph, hexUpTo, hexText}
+use Rattle.text.specs.Writing.{decimalUpTo, decimalText, wholeText, hexUpTo, hexText}
 use Rattle.text.proofs.Decimals.{decimal-more, in-word, whole-minus, whole-plus}
-use Rattle.text.proofs.Hexadecimals.{hex-decimal, hex-letter, word-length}
-use Rattle.text.proofs.Printed.{glyph-decimal, glyph-letter, whole-below, whole-above, hex-text-length}
+use Rattle.text.proofs.Hexadecimals.{glyph-back, word-length}
+use Rattle.text.proofs.Printed.{whole-below, whole-above, hex-text-length}
 
 -- ---- decimal: the value
 digit-spelt : (d : ℕ) → d < 10 → isDigit (code "0" + d) ≡ true
@@ -109,21 +110,6 @@ whole-back (negsuc n) f =
     ∙ negative-back (suc n) (omega arith) (omega arith)
 
 -- ---- hexadecimal
-glyph-back-at : (d : ℕ) (t : Bool) → ltb d 10 ≡ t → d < 16 → hexDigit (hexGlyph d) ≡ some d
-glyph-back-at d true e h =
-    let small = ltb-true d 10 e in
-    ap hexDigit (glyph-decimal d small) ∙ hex-decimal (code "0" + d) (digit-spelt d small) ∙ ap some (omega arith)
-glyph-back-at d false e h =
-    let large = ltb-false d 10 e in
-    let b = code "a" + (d - 10) in
-    ap hexDigit (glyph-letter d large)
-    ∙ hex-letter b (rw (le-leb (code "0") b (omega arith), lt-leb b (code "9") (omega arith)))
-    (rw (le-leb (code "a") b (omega arith), le-leb b (code "f") (omega arith)))
-    ∙ ap some (omega arith)
-
-glyph-back : (d : ℕ) → d < 16 → hexDigit (hexGlyph d) ≡ some d
-glyph-back d h = glyph-back-at d (ltb d 10) refl h
-
 hex-one : (a d : ℕ) → d < 16 → hexFrom a (hexGlyph d ∷ []) ≡ some (a * 16 + d)
 unfolding hexFrom
 hex-one a d h = ap (λ (o : Option ℕ). _>>=_ o (λ e. some (a * 16 + e))) (glyph-back d h)

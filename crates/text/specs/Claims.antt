@@ -1,30 +1,17 @@
--- To be believed. Document 01, "The script program": the ends of its numbers, its hexadecimal digits, and that what is printed is read back.
--- The functions `edge_cases` and `read_back` carry these claims.
+-- To be believed. Document 01, "The script program": the ends of its numbers, and that what is printed is read back. Document 02, CR 4: hexadecimal digits.
+-- The functions `edge_cases`, `read_back`, `byte_values` and `value_digits` carry these claims.
 use Prim.Native.Nat.{ℕ, zero, suc, _<_, _≤_}
 use mathlib.Core.Path.{_≡_}
-use mathlib.Core.Bool.{cond}
-use mathlib.Core.List.{List, [], _∷_, map}
-use mathlib.Core.Option.{Option, some, none}
-use lib.Dec.{eqb}
+use mathlib.Core.List.{List, [], _∷_, _++_, map}
+use mathlib.Core.Option.{some, none}
+use lib.ListN.{replicate}
 use lib.IntN.{ℤ, pos, negℤ}
 use mir.Syntax.{w32}
 use mir.Val.{SFits}
 use Rattle.text.specs.Ascii.{bytes}
-use Rattle.text.specs.Reading.{byteNumber, whole, hexDigit, hexWord}
-use Rattle.text.specs.Writing.{decimalText, wholeText, hexGlyph, hexText}
-
--- k numbers from n on
-unfoldable pub numbersFrom : ℕ → ℕ → List ℕ
-numbersFrom n zero = []
-numbersFrom n (suc k) = n ∷ numbersFrom (suc n) k
-
--- where b stands in a list whose places are counted from i
-unfoldable pub placeFrom : ℕ → List ℕ → ℕ → Option ℕ
-placeFrom i [] b = none
-placeFrom i (c ∷ cs) b = cond (eqb b c) (some i) (placeFrom (suc i) cs b)
-
-abbrev hexDigits : List ℕ
-hexDigits = bytes "0123456789abcdef"
+use Rattle.text.specs.Digits.{hexDigit, hexGlyph}
+use Rattle.text.specs.Reading.{byteNumber, whole, hexWord}
+use Rattle.text.specs.Writing.{decimalText, wholeText, hexText}
 
 pub record EdgeCases : Type 0 where
   -- "decimal, 0 to 255, no leading zeros"
@@ -55,12 +42,28 @@ pub record EdgeCases : Type 0 where
   pub sevenDigits : hexWord (bytes "4097a3d") ≡ none
   pub nineDigits : hexWord (bytes "040970a3d") ≡ none
   pub hexPrinted : hexText 0 ≡ bytes "00000000"
-  -- each of the 256 bytes gives its value or is no digit, and each value gives its digit
-  pub digitValues : map hexDigit (numbersFrom 0 256) ≡ map (placeFrom 0 hexDigits) (numbersFrom 0 256)
-  pub valueDigits : map hexGlyph (numbersFrom 0 16) ≡ hexDigits
 
 -- what is printed is read back
 pub record ReadBack : Type 0 where
   pub byteNumbers : (n : ℕ) → n ≤ 255 → byteNumber (decimalText n) ≡ some n
   pub wholes : (x : ℤ) → SFits w32 x → whole (wholeText x) ≡ some x
   pub hexWords : (n : ℕ) → n < 4294967296 → hexWord (hexText n) ≡ some n
+
+-- k numbers from n on
+unfoldable pub numbersFrom : ℕ → ℕ → List ℕ
+numbersFrom n zero = []
+numbersFrom n (suc k) = n ∷ numbersFrom (suc n) k
+
+-- CR 4: "each of the 256 bytes gives its value or is no digit, as document 01's form has it": by the bytes' numbers, 48 to 57 for `0` to `9` and 97 to 102
+-- for `a` to `f`
+pub record ByteValues : Type 0 where
+  pub eachByte : map hexDigit (numbersFrom 0 256)
+      ≡ replicate 48 none ++ map some (numbersFrom 0 10) ++ replicate 39 none ++ map some (numbersFrom 10 6) ++ replicate 153 none
+  -- "lower-case"
+  pub upperCase : map hexDigit (bytes "ABCDEF") ≡ replicate 6 none
+
+-- CR 4: "each value 0 to 15 gives its digit"
+pub record ValueDigits : Type 0 where
+  pub eachValue : map hexGlyph (numbersFrom 0 16) ≡ numbersFrom 48 10 ++ numbersFrom 97 6
+  -- a digit has the value that it was written for
+  pub back : (d : ℕ) → d < 16 → hexDigit (hexGlyph d) ≡ some d

@@ -1,5 +1,6 @@
 pub mod Types
 pub mod Ascii
+pub mod Digits
 pub mod Reading
 pub mod Writing
 pub mod Claims

@@ -8,13 +8,10 @@ use lib.ListN.{length}
 use lib.Dec.{ltb, leb, eqb}
 use lib.IntN.{ℤ, pos, negℤ}
 use Rattle.text.specs.Types.{_>>=_}
-
--- a byte from one character to another
-abbrev pub within : ℕ → ℕ → ℕ → Bool
-within low high b = leb low b && leb b high
+use Rattle.text.specs.Digits.{hexDigit}
 
 abbrev pub isDigit : ℕ → Bool
-isDigit b = within (code "0") (code "9") b
+isDigit b = leb (code "0") b && leb b (code "9")
 
 -- the number that decimal digits spell, after digits that spell a
 unfoldable pub decimalFrom : ℕ → List ℕ → Option ℕ
@@ -48,10 +45,7 @@ whole (b ∷ bs) = cond (eqb b (code "-"))
       n ← decimal (b ∷ bs)
       provided (leb n 2147483647) (pos n))
 
--- "lower-case hexadecimal digits": by arithmetic
-unfoldable pub hexDigit : ℕ → Option ℕ
-hexDigit b = cond (isDigit b) (some (b - code "0")) (provided (within (code "a") (code "f") b) (b - code "a" + 10))
-
+-- the number that hexadecimal digits spell, after digits that spell a
 unfoldable pub hexFrom : ℕ → List ℕ → Option ℕ
 hexFrom a [] = some a
 hexFrom a (b ∷ bs) = do

@@ -1,5 +1,5 @@
 -- To be believed. Document 01, "The script program": numbers as the program prints them.
-use Prim.Native.Nat.{ℕ, zero, suc, _+_, _-_, _/_, _%_}
+use Prim.Native.Nat.{ℕ, zero, suc, _+_, _/_, _%_}
 use Prim.Native.Char.{code}
 use mathlib.Core.Bool.{cond}
 use mathlib.Core.List.{List, [], _∷_, _++_}
@@ -8,6 +8,7 @@ use lib.IntN.{ℤ, pos, natAbs}
 use lib.ListN.{take}
 use lib.Signed.{ltZ}
 use Rattle.text.specs.declared.Text.{Text}
+use Rattle.text.specs.Digits.{hexGlyph}
 
 -- the bytes that a text holds
 unfoldable pub shown : Text → List ℕ
@@ -33,10 +34,6 @@ decimalText n = decimalUpTo 9 n
 -- "with `-` if negative, without `+`"
 unfoldable pub wholeText : ℤ → List ℕ
 wholeText x = cond (ltZ x (pos 0)) (code "-" ∷ decimalText (natAbs x)) (decimalText (natAbs x))
-
--- a digit below 16
-abbrev pub hexGlyph : ℕ → ℕ
-hexGlyph d = cond (ltb d 10) (code "0" + d) (code "a" + (d - 10))
 
 -- the last k hexadecimal digits of n
 unfoldable pub hexUpTo : ℕ → ℕ → List ℕ

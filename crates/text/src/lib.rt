@@ -1,5 +1,5 @@
 // Numbers as bytes: what a script line spells, and a short text to print.
-ghost use Rattle.text.specs.Claims.{EdgeCases, ReadBack};
+ghost use Rattle.text.specs.Claims.{EdgeCases, ReadBack, ByteValues, ValueDigits};
 
 mod reading;
 mod signs;
@@ -43,4 +43,14 @@ pub fn edge_cases()
 // Carries that each number that is printed is read back.
 pub fn read_back()
     ensures { λ _. ⌜ ReadBack ⌝ }
+{}
+
+// Carries that each of the 256 bytes gives its value or is no hexadecimal digit.
+pub fn byte_values()
+    ensures { λ _. ⌜ ByteValues ⌝ }
+{}
+
+// Carries that each value from 0 to 15 gives its hexadecimal digit.
+pub fn value_digits()
+    ensures { λ _. ⌜ ValueDigits ⌝ }
 {}

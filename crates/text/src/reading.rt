@@ -6,7 +6,8 @@ use crate::signs::negative;
 use crate::signs::positive;
 ghost use mathlib.Core.Path.{_≡_};
 ghost use Rattle.text.specs.Types.{numberRead, byteRead, wholeRead};
-ghost use Rattle.text.specs.Reading.{isDigit, decimal, decimalFrom, byteNumber, whole, hexDigit, hexWord};
+ghost use Rattle.text.specs.Digits.{hexDigit};
+ghost use Rattle.text.specs.Reading.{isDigit, decimal, decimalFrom, byteNumber, whole, hexWord};
 ghost use Rattle.text.specs.Private.{inWord};
 
 pub fn is_digit(b: u8) -> bool
@@ -85,7 +86,7 @@ pub fn read_whole(s: &[u8]) -> Whole
     }
 }
 
-// The value of a lower-case hexadecimal digit.
+// The value of a lower-case hexadecimal digit, by arithmetic.
 fn hex_digit(b: u8) -> Number
     ensures { λ r. ⌜ numberRead r ≡ hexDigit b ⌝ }
 {

@@ -5,9 +5,10 @@ use crate::signs::magnitude;
 ghost use mathlib.Core.Path.{_≡_};
 ghost use mathlib.Core.List.{[], _∷_, _++_};
 ghost use Prim.Native.Nat.{_<_};
-ghost use Rattle.text.specs.Writing.{decimalUpTo, decimalText, wholeText, hexGlyph, hexUpTo, hexText, shown, capped};
+ghost use Rattle.text.specs.Digits.{hexGlyph};
+ghost use Rattle.text.specs.Writing.{decimalUpTo, decimalText, wholeText, hexUpTo, hexText, shown, capped};
 
-// The digit of a value below 16; below 10 it is the decimal digit as well.
+// The digit of a value below 16, by arithmetic; below 10 it is the decimal digit as well.
 fn glyph(d: u32) -> u8
     requires { ⌜ d < 16 ⌝ }
     ensures { λ r. ⌜ r ≡ hexGlyph d ⌝ }

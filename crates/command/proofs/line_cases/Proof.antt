@@ -1,14 +1,15 @@
 -- Each case by computation.
 use mathlib.Core.Path.{refl}
 use Rattle.text.specs.Ascii.{bytes}
-use Rattle.text.specs.Reading.{decimalFrom, decimal, byteNumber, whole, hexDigit, hexFrom, hexWord}
+use Rattle.text.specs.Digits.{placeFrom, hexDigit}
+use Rattle.text.specs.Reading.{decimalFrom, decimal, byteNumber, whole, hexFrom, hexWord}
 use Rattle.command.specs.Commands.{fields, wholeIn, readingIn, limitIn, messageBy, messageIn, sendIn, actionBy, actionIn, leading, guardFrom}
 use Rattle.command.specs.Commands.{plainGuardIn, kindIn, guardIn, guardsIn, numberIn, napIn, newIn, offerIn, numbered, byLetter, commandIn, commandOf}
 use Rattle.command.proofs.line_cases.Statement.{statement}
 use Rattle.command.proofs.line_cases.Tie as tie
 
 returns : tie.Need-returns
-unfolding bytes decimalFrom decimal byteNumber whole hexDigit hexFrom hexWord fields wholeIn readingIn limitIn messageBy messageIn sendIn actionBy actionIn leading guardFrom plainGuardIn kindIn guardIn guardsIn numberIn napIn newIn offerIn numbered byLetter commandIn commandOf
+unfolding bytes placeFrom hexDigit decimalFrom decimal byteNumber whole hexFrom hexWord fields wholeIn readingIn limitIn messageBy messageIn sendIn actionBy actionIn leading guardFrom plainGuardIn kindIn guardIn guardsIn numberIn napIn newIn offerIn numbered byLetter commandIn commandOf
 returns c =
     record {
       commands = (refl, refl, refl, refl, refl, refl, refl, refl, refl, refl, refl);

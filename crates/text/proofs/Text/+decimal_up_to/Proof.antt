@@ -6,7 +6,8 @@ use native.Mathlib.Omega.{arith}
 use borrow.Author.Needs.{needs}
 use Rattle.text.specs.Writing.{decimalUpTo, shown, capped}
 use Rattle.text.proofs.Capped.{capped-then}
-use Rattle.text.proofs.Printed.{glyph-decimal, decimal-last, decimal-small, decimal-large}
+use Rattle.text.proofs.Hexadecimals.{glyph-decimal}
+use Rattle.text.proofs.Printed.{decimal-last, decimal-small, decimal-large}
 use borrow.Fn.Kinds.{In}
 use borrow.Fn.PlainCycle.{Measures, is, falls, and}
 use Rattle.text.proofs.Text.decimal_up_to.Reads as decimal-up-to

@@ -3,7 +3,8 @@ use mathlib.Core.Path.{_≡_, sym, _∙_, ap}
 use mathlib.Core.List.{List, [], _∷_, _++_}
 use borrow.Author.Needs.{needs}
 use lib.ListN.{length}
-use Rattle.text.specs.Writing.{hexGlyph, hexUpTo, shown, capped, lineLength}
+use Rattle.text.specs.Digits.{hexGlyph}
+use Rattle.text.specs.Writing.{hexUpTo, shown, capped, lineLength}
 use Rattle.text.proofs.Capped.{capped-shown, capped-then}
 use Rattle.text.proofs.Printed.{hex-none, hex-last}
 use borrow.Fn.Kinds.{In}

@@ -6,7 +6,8 @@ use native.Mathlib.Omega.{arith}
 use borrow.Author.Needs.{needs}
 use lib.ListN.{length, getD, drop}
 use Rattle.text.specs.Types.{numberRead}
-use Rattle.text.specs.Reading.{hexDigit, hexFrom}
+use Rattle.text.specs.Digits.{hexDigit}
+use Rattle.text.specs.Reading.{hexFrom}
 use Rattle.text.proofs.Hexadecimals.{hex-below, hex-next, hex-missing, hex-end, word-length, word-other, power-next, power-small}
 use Rattle.text.proofs.reading.read_hex_word.Statement.{statement}
 use Rattle.text.proofs.reading.read_hex_word.Tie as tie

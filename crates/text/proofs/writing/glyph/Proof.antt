@@ -1,6 +1,6 @@
 use mathlib.Core.Path.{sym}
 use borrow.Author.Needs.{needs}
-use Rattle.text.proofs.Printed.{glyph-decimal, glyph-letter}
+use Rattle.text.proofs.Hexadecimals.{glyph-decimal, glyph-letter}
 use Rattle.text.proofs.writing.glyph.Statement.{statement}
 use Rattle.text.proofs.writing.glyph.Tie as tie
 
@@ -8,7 +8,7 @@ returns : tie.Need-returns
 returns c = sym (glyph-decimal _ (c .if1 .taken))
 
 returns-2 : tie.Need-returns-2
-returns-2 c = sym (glyph-letter _ (c .if1 .left))
+returns-2 c = sym (glyph-letter _ (c .if1 .left) (search needs))
 
 pub glyph-spec : {M : Type 1} → statement M
 glyph-spec =
