@@ -1,4 +1,4 @@
--- The edge cases and the tables of digits hold by computation, and what is printed is read back.
+-- The tables of digits and the edge cases hold by computation, and what is printed is read back.
 use mathlib.Core.Path.{refl}
 use Rattle.text.specs.Ascii.{bytes}
 use Rattle.text.specs.Digits.{placeFrom, hexDigit, hexGlyph}
@@ -7,6 +7,14 @@ use Rattle.text.specs.Writing.{decimalUpTo, wholeText, hexUpTo}
 use Rattle.text.specs.Claims.{numbersFrom, EdgeCases, ReadBack, ByteValues, ValueDigits}
 use Rattle.text.proofs.RoundTrips.{byte-number-back, whole-back, hex-word-back}
 use Rattle.text.proofs.Hexadecimals.{glyph-back}
+
+pub byte-values-hold : ByteValues
+unfolding bytes placeFrom hexDigit numbersFrom
+byte-values-hold = record { eachByte = refl; upperCase = refl }
+
+pub value-digits-hold : ValueDigits
+unfolding bytes hexGlyph numbersFrom
+value-digits-hold = record { eachValue = refl; back = glyph-back }
 
 pub edge-cases-hold : EdgeCases
 unfolding bytes placeFrom hexDigit hexGlyph decimalFrom decimal byteNumber whole hexFrom hexWord decimalUpTo wholeText hexUpTo
@@ -40,11 +48,3 @@ edge-cases-hold = record {
 
 pub read-back-holds : ReadBack
 read-back-holds = record { byteNumbers = byte-number-back; wholes = whole-back; hexWords = hex-word-back }
-
-pub byte-values-hold : ByteValues
-unfolding bytes placeFrom hexDigit numbersFrom
-byte-values-hold = record { eachByte = refl; upperCase = refl }
-
-pub value-digits-hold : ValueDigits
-unfolding bytes hexGlyph numbersFrom
-value-digits-hold = record { eachValue = refl; back = glyph-back }

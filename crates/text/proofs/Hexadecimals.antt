@@ -2,7 +2,7 @@
 use Prim.Native.Nat.{ℕ, zero, suc, _+_, _-_, _*_, _^_, _<_, _≤_}
 use Prim.Native.Char.{code}
 use mathlib.Core.Path.{_≡_, refl, sym, _∙_, ap, subst}
-use mathlib.Core.Bool.{Bool, true, false, cond}
+use mathlib.Core.Bool.{Bool, true, false, cond, _||_}
 use mathlib.Core.List.{List, [], _∷_, map}
 use mathlib.Core.Option.{Option, some, none, Option·some-injective, Option·none-ne-some}
 use native.Mathlib.Omega.{arith}
@@ -15,7 +15,7 @@ use lib.Seq.{drop-cons}
 use Rattle.text.specs.Types.{_>>=_}
 use Rattle.text.specs.Ascii.{bytes}
 use Rattle.text.specs.Digits.{hexDigits, placeFrom, hexDigit, hexGlyph}
-use Rattle.text.specs.Reading.{isDigit, provided, hexFrom, hexWord}
+use Rattle.text.specs.Reading.{isDigit, hexFrom, hexWord}
 use Rattle.text.specs.Claims.{numbersFrom}
 use Rattle.text.proofs.Decimals.{within}
 
@@ -29,21 +29,21 @@ each f g n (suc k) zero b e h q =
 each f g n (suc k) (suc i) b e h q = each f g (suc n) k i b (ap (drop 1) e) (omega arith) (omega arith)
 
 -- ---- one digit, worked out
-abbrev worked : ℕ → Option ℕ
-worked b = cond (isDigit b) (some (b - code "0")) (provided (within (code "a") (code "f") b) (b - code "a" + 10))
-
-hex-worked : (b : ℕ) → b < 256 → hexDigit b ≡ worked b
+pub hex-decimal : (b : ℕ) → code "0" ≤ b → b ≤ code "9" → hexDigit b ≡ some (b - code "0")
 unfolding numbersFrom bytes placeFrom hexDigit
-hex-worked b h = each hexDigit worked 0 256 b b refl h (omega arith)
+hex-decimal b l h = each hexDigit (λ e. some (e - code "0")) (code "0") 10 (b - code "0") b refl (omega arith) (omega arith)
 
-pub hex-decimal : (b : ℕ) → b < 256 → isDigit b ≡ true → hexDigit b ≡ some (b - code "0")
-hex-decimal b h e = hex-worked b h ∙ rw e
+pub hex-letter : (b : ℕ) → code "a" ≤ b → b ≤ code "f" → hexDigit b ≡ some (b - code "a" + 10)
+unfolding numbersFrom bytes placeFrom hexDigit
+hex-letter b l h = each hexDigit (λ e. some (e - code "a" + 10)) (code "a") 6 (b - code "a") b refl (omega arith) (omega arith)
 
-pub hex-letter : (b : ℕ) → b < 256 → isDigit b ≡ false → within (code "a") (code "f") b ≡ true → hexDigit b ≡ some (b - code "a" + 10)
-hex-letter b h e g = hex-worked b h ∙ rw (e, g)
+-- a byte that neither test takes
+abbrev untaken : ℕ → Option ℕ
+untaken b = cond (isDigit b || within (code "a") (code "f") b) (hexDigit b) none
 
 pub hex-other : (b : ℕ) → b < 256 → isDigit b ≡ false → within (code "a") (code "f") b ≡ false → hexDigit b ≡ none
-hex-other b h e g = hex-worked b h ∙ rw (e, g)
+unfolding numbersFrom bytes placeFrom hexDigit
+hex-other b h d l = each hexDigit untaken 0 256 b b refl h (omega arith) ∙ rw (d, l)
 
 pub glyph-decimal : (d : ℕ) → d < 10 → hexGlyph d ≡ code "0" + d
 unfolding numbersFrom bytes hexGlyph
