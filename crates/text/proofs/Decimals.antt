@@ -27,6 +27,9 @@ within-range low high b = go (leb low b) refl
     go true l e = (leb-true low b l, leb-true b high e)
     go false l e = absurd (false≢true e)
 
+pub within-outside : (low high b : ℕ) → within low high b ≡ false → low ≤ b → b ≤ high → ⊥
+within-outside low high b e l h = false≢true (sym e ∙ rw (le-leb low b l, le-leb b high h))
+
 pub digit-range : (b : ℕ) → isDigit b ≡ true → (code "0" ≤ b) × (b ≤ code "9")
 digit-range b e = within-range (code "0") (code "9") b e
 

@@ -2,22 +2,21 @@
 use Prim.Native.Nat.{ℕ, zero, suc, _+_, _-_, _*_, _^_, _<_, _≤_}
 use Prim.Native.Char.{code}
 use mathlib.Core.Path.{_≡_, refl, sym, _∙_, ap, subst}
-use mathlib.Core.Bool.{Bool, true, false, cond, _||_}
+use mathlib.Core.Bool.{Bool, true, false, cond}
 use mathlib.Core.List.{List, [], _∷_, map}
 use mathlib.Core.Option.{Option, some, none, Option·some-injective, Option·none-ne-some}
 use native.Mathlib.Omega.{arith}
-use native.Mathlib.Nat.{pow-suc, pow-le-pow-right}
+use native.Mathlib.Nat.{pow-suc, pow-le-pow-right, lt-of-not-le}
 use native.Mathlib.Numerals.{add-one}
-use borrow.Author.Tests.{eq-eqb, ne-eqb}
-use lib.Dec.{eqb}
+use borrow.Author.Tests.{eq-eqb, ne-eqb, ltb-true, ltb-false}
+use lib.Dec.{ltb, eqb}
 use lib.ListN.{length, getD, drop, drop-of-length-le}
 use lib.Seq.{drop-cons}
 use Rattle.text.specs.Types.{_>>=_}
 use Rattle.text.specs.Ascii.{bytes}
 use Rattle.text.specs.Digits.{hexDigits, placeFrom, hexDigit, hexGlyph}
-use Rattle.text.specs.Reading.{isDigit, hexFrom, hexWord}
+use Rattle.text.specs.Reading.{hexFrom, hexWord}
 use Rattle.text.specs.Claims.{numbersFrom}
-use Rattle.text.proofs.Decimals.{within}
 
 -- ---- a row computed for k numbers from n on says it of each of them
 each : {A : Type 0} (f g : ℕ → A) (n k i b : ℕ) → map f (numbersFrom n k) ≡ map g (numbersFrom n k) → i < k → n + i ≡ b → f b ≡ g b
@@ -37,13 +36,20 @@ pub hex-letter : (b : ℕ) → code "a" ≤ b → b ≤ code "f" → hexDigit b 
 unfolding numbersFrom bytes placeFrom hexDigit
 hex-letter b l h = each hexDigit (λ e. some (e - code "a" + 10)) (code "a") 6 (b - code "a") b refl (omega arith) (omega arith)
 
--- a byte that neither test takes
-abbrev untaken : ℕ → Option ℕ
-untaken b = cond (isDigit b || within (code "a") (code "f") b) (hexDigit b) none
-
-pub hex-other : (b : ℕ) → b < 256 → isDigit b ≡ false → within (code "a") (code "f") b ≡ false → hexDigit b ≡ none
+-- the bytes below the digits, between them and the letters, and above
+pub hex-other : (b : ℕ) → b < 256 → (code "0" ≤ b → b ≤ code "9" → ⊥) → (code "a" ≤ b → b ≤ code "f" → ⊥) → hexDigit b ≡ none
 unfolding numbersFrom bytes placeFrom hexDigit
-hex-other b h d l = each hexDigit untaken 0 256 b b refl h (omega arith) ∙ rw (d, l)
+hex-other b h d l = at (ltb b 48) (ltb b 97) refl refl
+  where
+    at : (t u : Bool) → ltb b 48 ≡ t → ltb b 97 ≡ u → hexDigit b ≡ none
+    at true u e f = each hexDigit (λ _. none) 0 48 b b refl (ltb-true b 48 e) (omega arith)
+    at false true e f =
+        let above = lt-of-not-le (d (ltb-false b 48 e)) in
+        let below = ltb-true b 97 f in
+        each hexDigit (λ _. none) 58 39 (b - 58) b refl (omega arith) (omega arith)
+    at false false e f =
+        let above = lt-of-not-le (l (ltb-false b 97 f)) in
+        each hexDigit (λ _. none) 103 153 (b - 103) b refl (omega arith) (omega arith)
 
 pub glyph-decimal : (d : ℕ) → d < 10 → hexGlyph d ≡ code "0" + d
 unfolding numbersFrom bytes hexGlyph

@@ -1,7 +1,7 @@
 use mathlib.Core.Path.{sym, _∙_}
 use native.Mathlib.Omega.{arith}
 use borrow.Author.Needs.{needs}
-use Rattle.text.proofs.Decimals.{within-range, digit-range}
+use Rattle.text.proofs.Decimals.{within-range, within-outside, digit-range}
 use Rattle.text.proofs.Hexadecimals.{hex-decimal, hex-letter, hex-other}
 use Rattle.text.proofs.reading.hex_digit.Statement.{statement}
 use Rattle.text.proofs.reading.hex_digit.Tie as tie
@@ -25,7 +25,11 @@ returns-2 c =
     sym (hex-letter b (omega (arith, r .0)) (omega (arith, r .1)))
 
 returns-3 : tie.Need-returns-3
-returns-3 c = sym (hex-other _ (search needs) (sym (c .before .before .is-digit .ensures) ∙ c .before .if1 .left) (c .if2 .left))
+returns-3 c =
+    let b = c .before .before .before .args .b in
+    let d = within-outside _ _ b (sym (c .before .before .is-digit .ensures) ∙ c .before .if1 .left) in
+    let l = within-outside _ _ b (c .if2 .left) in
+    sym (hex-other b (search needs) d (λ low high. l (omega arith) (omega arith)))
 
 pub hex-digit-spec : {M : Type 1} → statement M
 hex-digit-spec =
