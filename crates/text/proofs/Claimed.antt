@@ -6,11 +6,11 @@ use Rattle.text.specs.Reading.{decimalFrom, decimal, byteNumber, whole, 
 use Rattle.text.specs.Writing.{decimalUpTo, wholeText, hexUpTo}
 use Rattle.text.specs.Claims.{numbersFrom, EdgeCases, ReadBack, ByteValues, ValueDigits}
 use Rattle.text.proofs.RoundTrips.{byte-number-back, whole-back, hex-word-back}
-use Rattle.text.proofs.Hexadecimals.{glyph-back}
+use Rattle.text.proofs.Hexadecimals.{glyph-back, word-spoilt}
 
 pub byte-values-hold : ByteValues
 unfolding bytes placeFrom hexDigit numbersFrom
-byte-values-hold = record { eachByte = refl; upperCase = refl }
+byte-values-hold = record { eachByte = refl; upperCase = refl; spoils = word-spoilt }
 
 pub value-digits-hold : ValueDigits
 unfolding bytes hexGlyph numbersFrom

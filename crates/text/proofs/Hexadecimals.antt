@@ -3,7 +3,7 @@ use Prim.Native.Nat.{ℕ, zero, suc, _+_, _-_, _*_, _^_, _<_, _≤_}
 use Prim.Native.Char.{code}
 use mathlib.Core.Path.{_≡_, refl, sym, _∙_, ap, subst}
 use mathlib.Core.Bool.{Bool, true, false, cond}
-use mathlib.Core.List.{List, [], _∷_, map}
+use mathlib.Core.List.{List, [], _∷_, _++_, map}
 use mathlib.Core.Option.{Option, some, none, Option·some-injective, Option·none-ne-some}
 use native.Mathlib.Omega.{arith}
 use native.Mathlib.Nat.{pow-suc, pow-le-pow-right, lt-of-not-le}
@@ -96,6 +96,25 @@ hex-missing l i a h e = ap (hexFrom a) (drop-cons l i 0 h) ∙ hex-from a (getD 
 pub hex-end : (l : List ℕ) (i a : ℕ) → length l ≤ i → hexFrom a (drop i l) ≡ some a
 unfolding hexFrom
 hex-end l i a h = ap (hexFrom a) (drop-of-length-le l h)
+
+-- ---- a byte that is no digit
+bind-none : (o : Option ℕ) (f : ℕ → Option ℕ) → ((d : ℕ) → f d ≡ none) → _>>=_ o f ≡ none
+bind-none none f h = refl
+bind-none (some d) f h = h d
+
+hex-spoilt : (a b : ℕ) (before after : List ℕ) → hexDigit b ≡ none → hexFrom a (before ++ b ∷ after) ≡ none
+unfolding hexFrom
+hex-spoilt a b [] after e = hex-from a b after none e
+hex-spoilt a b (c ∷ before) after e =
+    bind-none (hexDigit c) (λ d. hexFrom (a * 16 + d) (before ++ b ∷ after)) (λ d. hex-spoilt (a * 16 + d) b before after e)
+
+pub word-spoilt : (b : ℕ) (before after : List ℕ) → hexDigit b ≡ none → hexWord (before ++ b ∷ after) ≡ none
+unfolding hexWord
+word-spoilt b before after e = at (eqb (length (before ++ b ∷ after)) 8)
+  where
+    at : (t : Bool) → cond t (hexFrom 0 (before ++ b ∷ after)) none ≡ none
+    at true = hex-spoilt 0 b before after e
+    at false = refl
 
 -- ---- eight digits, and that 32 bits hold them
 pub word-length : (l : List ℕ) → length l ≡ 8 → hexWord l ≡ hexFrom 0 l

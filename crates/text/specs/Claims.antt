@@ -61,6 +61,8 @@ pub record ByteValues : Type 0 where
       ≡ replicate 48 none ++ map some (numbersFrom 0 10) ++ replicate 39 none ++ map some (numbersFrom 10 6) ++ replicate 153 none
   -- "lower-case"
   pub upperCase : map hexDigit (bytes "ABCDEF") ≡ replicate 6 none
+  -- a byte that is no digit spoils the word, wherever it stands
+  pub spoils : (b : ℕ) (before after : List ℕ) → hexDigit b ≡ none → hexWord (before ++ b ∷ after) ≡ none
 
 -- CR 4: "each value 0 to 15 gives its digit"
 pub record ValueDigits : Type 0 where
