@@ -1,5 +1,5 @@
--- To be believed. Document 01, "The desk and its tasks" and rule 7, and CR 2 of document 02: when guards and offers match, and the two searches in a list of guards.
-use Rattle.alternative.specs.Types.{ℕ, suc, Bool, true, false, _&&_, _||_, cond, List, [], _∷_, _++_, length, take, drop, replicate, eqb, Action, Guard}
+-- To be believed. Document 01, "The desk and its tasks" and rule 7, and CRs 2 and 5 of document 02: when guards and offers match, and the two searches in a list of guards.
+use Rattle.alternative.specs.Types.{ℕ, suc, Bool, true, false, not, _&&_, _||_, cond, List, [], _∷_, _++_, length, take, drop, replicate, eqb, ltb, Action, Guard}
 use Rattle.alternative.specs.Types.{GuardList, Found}
 
 -- "its list of up to eight guards"
@@ -8,11 +8,15 @@ mostGuards = 8
 
 -- what stands in a slot of a guard array past the list's end
 abbrev pub blank : Guard
-blank = record { enabled = false; partner = 0; kind = 0; action = Action.Receive }
+blank = record { enabled = false; partner = 0; kind = 0; rank = 0; action = Action.Receive }
 
 -- CR 2: "Each guard gets a kind, 0 to 255" (the code's `u8` holds no other): the guard g with kind k
 abbrev pub ofKind : ℕ → Guard → Guard
-ofKind k g = record { enabled = g .enabled; partner = g .partner; kind = k; action = g .action }
+ofKind k g = record { enabled = g .enabled; partner = g .partner; kind = k; rank = g .rank; action = g .action }
+
+-- CR 5: "Each guard gets a rank, 0 to 255": the guard g with rank r
+abbrev pub ofRank : ℕ → Guard → Guard
+ofRank r g = record { enabled = g .enabled; partner = g .partner; kind = g .kind; rank = r; action = g .action }
 
 -- "one sends while the other receives"
 abbrev pub opposite : Action → Action → Bool
@@ -44,11 +48,16 @@ unfoldable pub firstFrom : (Guard → Bool) → List Guard → ℕ → Found
 firstFrom test [] k = Found.Missing
 firstFrom test (g ∷ gs) k = cond (test g) (Found.At k) (firstFrom test gs (suc k))
 
--- rule 7: the first guard of q's list that matches p's guard g
-unfoldable pub keptMatch : ℕ → Guard → ℕ → List Guard → Found
-keptMatch p g q hs = firstFrom (guardsMatch p g q) hs 0
+-- a guard of q's list hs that matches p's guard g ranks higher than h does
+unfoldable pub outranked : ℕ → Guard → ℕ → List Guard → Guard → Bool
+outranked p g q hs h = anyGuard (λ k. guardsMatch p g q k && ltb (h .rank) (k .rank)) hs
 
--- the first enabled guard of a list at or after index k
+-- CR 5: "In rule 7 the kept guard is, of all matching ones in the partner's posted list, the one of greatest rank, the first among equals.": the first guard of q's list hs that
+-- matches p's guard g and that no matching one outranks
+unfoldable pub keptMatch : ℕ → Guard → ℕ → List Guard → Found
+keptMatch p g q hs = firstFrom (λ h. guardsMatch p g q h && not (outranked p g q hs h)) hs 0
+
+-- the first enabled guard of a list at or after index k: CR 5, "The scanning side still goes by list order."
 unfoldable pub nextEnabled : List Guard → ℕ → Found
 nextEnabled gs k = firstFrom (λ g. g .enabled) (drop k gs) k
 

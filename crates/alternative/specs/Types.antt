@@ -1,5 +1,5 @@
 -- To be believed as names only, gathered for the definitions: the libraries', for the files of all crates, and the types that the code declares. No definition of its own.
-pub use Prim.Native.Nat.{ℕ, zero, suc, _+_, _^_, _≤_}
+pub use Prim.Native.Nat.{ℕ, zero, suc, _+_, _^_, _≤_, _<_}
 pub use Prim.Native.Char.{Char, code}
 pub use Prim.Native.String.{String}
 pub use mathlib.Core.Path.{_≡_}

@@ -1,7 +1,8 @@
 // Messages and guards of an alternative: when two guards match, the searches in a list of guards, and what a rendezvous hands over.
 ghost use mathlib.Core.Path.{_≡_};
-ghost use Rattle.alternative.specs.Guards.{blank, ofKind};
+ghost use Rattle.alternative.specs.Guards.{blank, ofKind, ofRank};
 ghost use Rattle.alternative.specs.Kinds.{KindsRefine};
+ghost use Rattle.alternative.specs.Ranks.{RanksDecide};
 
 mod exchange;
 mod floats;
@@ -32,11 +33,12 @@ pub enum Action {
     Send(Message),
 }
 
-// Document 01's guard, with the kind that document 02 gives it. `partner` is the number of the process that it names.
+// Document 01's guard, with the kind and the rank that document 02 gives it. `partner` is the number of the process that it names.
 pub struct Guard {
     pub enabled: bool,
     pub partner: u8,
     pub kind: u8,
+    pub rank: u8,
     pub action: Action,
 }
 
@@ -54,6 +56,7 @@ pub fn blank_guard() -> Guard
         enabled: false,
         partner: 0,
         kind: 0,
+        rank: 0,
         action: Action::Receive,
     }
 }
@@ -67,6 +70,21 @@ pub fn of_kind(guard: Guard, kind: u8) -> Guard
         enabled: guard.enabled,
         partner: guard.partner,
         kind: kind,
+        rank: guard.rank,
+        action: action,
+    }
+}
+
+// The guard with a rank.
+pub fn of_rank(guard: Guard, rank: u8) -> Guard
+    ensures { λ r. ⌜ r ≡ ofRank rank guard ⌝ }
+{
+    let action = guard.action;
+    Guard {
+        enabled: guard.enabled,
+        partner: guard.partner,
+        kind: guard.kind,
+        rank: rank,
         action: action,
     }
 }
@@ -80,4 +98,9 @@ pub enum Found {
 // Carries that guards match only within a kind, and there as document 01 says.
 pub fn kinds_refine()
     ensures { λ _. ⌜ KindsRefine ⌝ }
+{}
+
+// Carries which guard rule 7 keeps: of those that match the one of greatest rank, the first among equals.
+pub fn ranks_decide()
+    ensures { λ _. ⌜ RanksDecide ⌝ }
 {}

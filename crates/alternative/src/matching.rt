@@ -33,20 +33,24 @@ fn guards_match(p: u8, g: Guard, q: u8, h: Guard) -> bool
     plain & (g.kind == h.kind)
 }
 
-// The first guard in the list of process q, `count` guards, that matches guard g of process p.
+// The guard that rule 7 keeps of the list of process q, `count` guards: of all that match guard g of process p the one of greatest rank, the first among equals.
 pub fn kept_match(p: u8, g: Guard, q: u8, list: [Guard; 8], count: usize) -> Found
     ensures { λ r. ⌜ r ≡ keptMatch p g q (take count list) ⌝ }
 {
     let end = held(count);
+    let mut kept = Found::Missing;
+    // a guard that matches takes the place of the kept one if its rank is at least this
+    let mut least: u16 = 0;
     let mut k: usize = 0;
     while k < end {
         let h = list[k];
-        if guards_match(p, g, q, h) {
-            return Found::At(k as u8);
+        if guards_match(p, g, q, h) & (least <= h.rank as u16) {
+            kept = Found::At(k as u8);
+            least = h.rank as u16 + 1;
         }
         k = k + 1;
     }
-    Found::Missing
+    kept
 }
 
 // The first enabled guard in a list of `count` guards, at or after index `from`.

@@ -27,7 +27,7 @@ unfolding guardFrom
 from-zero enabled bs = go (byteNumber (take (digitCount bs) bs)) (actionIn (drop (digitCount bs) bs))
   where
     go : (partner : Option ℕ) (action : Option Action)
-        → KindZero (_>>=_ partner (λ p. _>>=_ action (λ a. some (record { enabled = enabled; partner = p; kind = 0; action = a }))))
+        → KindZero (_>>=_ partner (λ p. _>>=_ action (λ a. some (record { enabled = enabled; partner = p; kind = 0; rank = 0; action = a }))))
     go none action = tt
     go (some p) none = tt
     go (some p) (some a) = refl

@@ -88,7 +88,7 @@ unfoldable pub guardFrom : Bool → List ℕ → Option Guard
 guardFrom enabled bs = do
   partner ← byteNumber (take (digitCount bs) bs)
   action ← actionIn (drop (digitCount bs) bs)
-  some (record { enabled = enabled; partner = partner; kind = 0; action = action })
+  some (record { enabled = enabled; partner = partner; kind = 0; rank = 0; action = action })
 
 -- "A guard is an optional `-` (disabled), the partner .., and then" the action
 unfoldable pub plainGuardIn : List ℕ → Option Guard

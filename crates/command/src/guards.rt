@@ -75,6 +75,7 @@ fn guard_from(enabled: bool, s: &[u8]) -> ReadGuard
                     enabled: enabled,
                     partner: partner,
                     kind: 0,
+                    rank: 0,
                     action: action,
                 };
                 ReadGuard::Value(guard)

@@ -6,7 +6,7 @@ use Rattle.exports.specs.Types.{ℕ, _-_, true, List, _∷_, replicate, 
 
 abbrev pub onOther : ℕ → Action → Place → Process
 onOther partner action place =
-    let guards : List Guard = record { enabled = true; partner = partner; kind = 0; action = action } ∷ replicate (mostGuards - 1) blank in
+    let guards : List Guard = record { enabled = true; partner = partner; kind = 0; rank = 0; action = action } ∷ replicate (mostGuards - 1) blank in
     record { place = place; signal = Signal.Absent; transaction = record { 0 = 0 }; accepting = true; count = 1; altcount = 1; guards = guards; altlist = guards }
 
 abbrev pub facing : Place → Action → Action → ProcessTable

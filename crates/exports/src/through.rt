@@ -30,6 +30,7 @@ fn on_other(partner: u8, action: Action, place: Place) -> Process
         enabled: true,
         partner: partner,
         kind: 0,
+        rank: 0,
         action: action,
     };
     let altlist = guards;

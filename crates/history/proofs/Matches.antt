@@ -15,6 +15,8 @@ use Rattle.alternative.specs.declared.Guard.{Guard}
 use Rattle.alternative.specs.declared.Found.{Found}
 use Rattle.alternative.specs.Guards.{mostGuards, blank, opposite, plainMatch, guardsMatch, anyGuard, offersMatch, firstFrom, keptMatch, nextEnabled}
 use Rattle.process.specs.Fits.{allGuards, partnerFits, listFits}
+use Rattle.alternative.proofs.Kept.{kept-view}
+use Rattle.alternative.proofs.Search.{first-view, any-none}
 use Rattle.alternative.proofs.Tests.{and-parts}
 use Rattle.history.proofs.Invariant.{On}
 
@@ -61,32 +63,13 @@ pub match-comm : (p : ℕ) (g : Guard) (q : ℕ) (h : Guard) → guardsMatch p g
 unfolding guardsMatch
 match-comm p g q h = rw (eqb-comm (g .kind) (h .kind)) (ap (λ (b : Bool). b && eqb (h .kind) (g .kind)) (plain-comm p g q h))
 
--- by the two values of a test
-test-elim : {A : Type 0} (P : A → Type 0) (b : Bool) {x y : A} → (b ≡ true → P x) → (b ≡ false → P y) → P (cond b x y)
-test-elim P true f g = f refl
-test-elim P false f g = g refl
-
--- A search stops at a guard that passes the test with none before it, or finds none.
-first-view : (P : Found → Type 0) (test : Guard → Bool) (hs : List Guard) (s : ℕ) → (test blank ≡ true → ⊥)
-    → ((i : ℕ) → test (getD hs i blank) ≡ true → ((k : ℕ) → k < i → test (getD hs k blank) ≡ true → ⊥) → P (Found.At (s + i)))
-    → (((k : ℕ) → test (getD hs k blank) ≡ true → ⊥) → P Found.Missing)
-    → P (firstFrom test hs s)
-unfolding firstFrom
-first-view P test [] s off a b = b (λ k. off)
-first-view P test (g ∷ gs) s off a b = test-elim P (test g)
-    (λ e. rw add-zero at (a 0 e (λ k l. absurd (omega arith))))
-    (λ e. first-view P test gs (suc s) off
-    (λ i o n. subst P (ap Found.At (omega arith)) (a (suc i) o (λ k. elim k [ zero ↦ λ l c. false≢true (sym e ∙ c) | suc j ↦ λ l c. n j (omega arith) c ])))
-    (λ n. b (λ k. elim k [ zero ↦ λ c. false≢true (sym e ∙ c) | suc j ↦ n j ])))
-
 -- what rule 7's search says: the guard that it finds matches, and where it finds none, none does
 abbrev pub Searched : ℕ → Guard → ℕ → List Guard → Found → Type 0
 Searched p g q hs (Found.At j) = guardsMatch p g q (getD hs j blank) ≡ true
 Searched p g q hs Found.Missing = (k : ℕ) → guardsMatch p g q (getD hs k blank) ≡ true → ⊥
 
 pub searched : (p : ℕ) (g : Guard) (q : ℕ) (hs : List Guard) → Searched p g q hs (keptMatch p g q hs)
-unfolding keptMatch
-searched p g q hs = first-view (Searched p g q hs) (guardsMatch p g q) hs 0 (λ e. false≢true (match e .there)) (λ i e n. subst (λ (j : ℕ). Searched p g q hs (Found.At j)) (omega arith) e) (λ n. n)
+searched p g q hs = kept-view p g q hs (Searched p g q hs) (λ j b. b .passes) (λ n. n)
 
 -- the first enabled guard at or after index s
 pub next-view : (P : Found → Type 0) (gs : List Guard) (s : ℕ)
@@ -102,11 +85,6 @@ next-view P gs s a b = first-view P (λ g. g .enabled) (drop s gs) s false≢tru
     lower k h a = rw getD-drop (subst (On gs) (omega arith) a)
 
 -- offers match by two guards, if at all
-any-none : (test : Guard → Bool) (gs : List Guard) → ((k : ℕ) → test (getD gs k blank) ≡ false) → anyGuard test gs ≡ false
-unfolding anyGuard
-any-none test [] h = refl
-any-none test (g ∷ gs) h = rw (h 0) (any-none test gs (λ k. h (suc k)))
-
 pub no-match : (p : ℕ) (gs : List Guard) (q : ℕ) (hs : List Guard) → ((k l : ℕ) → guardsMatch p (getD gs k blank) q (getD hs l blank) ≡ true → ⊥) → offersMatch p gs q hs ≡ false
 unfolding offersMatch
 no-match p gs q hs h = any-none (λ g. anyGuard (guardsMatch p g q) hs) gs (λ k. any-none (guardsMatch p (getD gs k blank) q) hs (λ l. neither _ (h k l)))

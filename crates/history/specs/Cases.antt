@@ -35,19 +35,19 @@ collects p = Do (Collect p)
 
 -- guards as the script writes them: q?, q! with a message or the bits of a reading, and -q?
 abbrev pub receive : ℕ → Guard
-receive q = record { enabled = true; partner = q; kind = 0; action = Action.Receive }
+receive q = record { enabled = true; partner = q; kind = 0; rank = 0; action = Action.Receive }
 
 abbrev pub reading : ℕ → Message
 reading bits = Message.Reading (ofBits binary32 bits)
 
 abbrev pub sends : ℕ → Message → Guard
-sends q m = record { enabled = true; partner = q; kind = 0; action = Action.Send m }
+sends q m = record { enabled = true; partner = q; kind = 0; rank = 0; action = Action.Send m }
 
 abbrev pub send : ℕ → ℕ → Guard
 send q bits = sends q (reading bits)
 
 abbrev pub disabled : ℕ → Guard
-disabled q = record { enabled = false; partner = q; kind = 0; action = Action.Receive }
+disabled q = record { enabled = false; partner = q; kind = 0; rank = 0; action = Action.Receive }
 
 -- a fresh table of two processes, but for its next ticket
 abbrev from : ℕ → ProcessTable

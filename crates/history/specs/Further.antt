@@ -49,7 +49,7 @@ further =
     ∷ case (makes 3 ∷ offers 0 (receive 3 ∷ []) ∷ offers 0 (receive 2 ∷ []) ∷ offers 1 (send 0 0x7f800000 ∷ []) ∷ []) (made ∷ refusal 4 ∷ ticket 0 ∷ ticket 1 ∷ [])
     -- "4, then 5, guard by guard", and "Disabled guards are tested too": 5 before 6
     ∷ case (makes 2 ∷ offers 0 (send 0 0x7fc00000 ∷ []) ∷ offers 0 (send 1 0x7fc00000 ∷ receive 0 ∷ []) ∷ []) (made ∷ refusal 4 ∷ refusal 5 ∷ [])
-    ∷ case (makes 2 ∷ offers 0 (record { enabled = false; partner = 1; kind = 0; action = Action.Send (reading 0x7fc00000) } ∷ []) ∷ []) (made ∷ refusal 5 ∷ [])
+    ∷ case (makes 2 ∷ offers 0 (record { enabled = false; partner = 1; kind = 0; rank = 0; action = Action.Send (reading 0x7fc00000) } ∷ []) ∷ []) (made ∷ refusal 5 ∷ [])
     -- a NaN in either half of a limit gives 5
     ∷ case (makes 2 ∷ offers 0 (sends 1 (limit 0x40970a3d 0x7fc00000) ∷ []) ∷ offers 0 (sends 1 (limit 0x7fc00000 0x40970a3d) ∷ []) ∷ []) (made ∷ refusal 5 ∷ refusal 5 ∷ [])
     -- 11 before 12

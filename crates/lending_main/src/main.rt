@@ -25,6 +25,7 @@ fn nine_guards() -> [Guard; 9] {
         enabled: true,
         partner: 3,
         kind: 0,
+        rank: 0,
         action: Action::Send(Message::Reading(4.72)),
     };
     [guard; 9]

@@ -20,6 +20,7 @@ fn guard_by(p: u8) -> Guard {
             enabled: true,
             partner: 1,
             kind: 0,
+            rank: 0,
             action: Action::Send(Message::Reading(4.72)),
         }
     } else {
@@ -27,6 +28,7 @@ fn guard_by(p: u8) -> Guard {
             enabled: true,
             partner: 0,
             kind: 0,
+            rank: 0,
             action: Action::Receive,
         }
     }

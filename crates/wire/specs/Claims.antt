@@ -65,12 +65,12 @@ pub record Faithful (t : ProcessTable) : Type 0 where
 abbrev pub ReadsBack : Type 0
 ReadsBack = (t : ProcessTable) → Held t → Faithful t
 
--- The bytes of one guard, in their order: enabled, to partner 7, of kind 9, sending nothing. They are read as that guard.
+-- The bytes of one guard, in their order: enabled, to partner 7, of kind 9, of rank 5, sending nothing. They are read as that guard.
 abbrev aGuard : Guard
-aGuard = record { enabled = true; partner = 7; kind = 9; action = Action.Send Message.Nothing }
+aGuard = record { enabled = true; partner = 7; kind = 9; rank = 5; action = Action.Send Message.Nothing }
 
 abbrev its : List ℕ
-its = 1 ∷ 7 ∷ 9 ∷ 1 ∷ 0 ∷ 0 ∷ 0 ∷ 0 ∷ 0 ∷ 0 ∷ 0 ∷ 0 ∷ 0 ∷ []
+its = 1 ∷ 7 ∷ 9 ∷ 5 ∷ 1 ∷ 0 ∷ 0 ∷ 0 ∷ 0 ∷ 0 ∷ 0 ∷ 0 ∷ 0 ∷ 0 ∷ []
 
 abbrev pub GuardAsBytes : Type 0
 GuardAsBytes = (guardBytes aGuard ≡ its) × (guardOf its ≡ aGuard)

@@ -24,9 +24,9 @@ sentAt = 1
 abbrev pub actionLength : ℕ
 actionLength = sentAt + messageLength
 
--- a guard: enabled, the partner, the kind, the action
+-- a guard: enabled, the partner, the kind, the rank, the action
 abbrev pub actionAt : ℕ
-actionAt = 3
+actionAt = 4
 
 abbrev pub guardLength : ℕ
 guardLength = actionAt + actionLength
@@ -91,5 +91,5 @@ tableLength = headLength + recordsLength
 -- how long a message, a guard, a record, a head and a table are, and where in a record the signal, the ticket, accepting, the own and the posted guards stand: the numbers of docs/BYTES.md
 abbrev pub Lengths : Type 0
 Lengths =
-    (messageLength ≡ 9) × (guardLength ≡ 13) × (recordLength ≡ 238) × (headLength ≡ 6) × (tableLength ≡ 7622) ×
-    (signalAt ≡ 12) × (ticketAt ≡ 23) × (acceptingAt ≡ 27) × (guardsAt ≡ 30) × (altlistAt ≡ 134)
+    (messageLength ≡ 9) × (guardLength ≡ 14) × (recordLength ≡ 254) × (headLength ≡ 6) × (tableLength ≡ 8134) ×
+    (signalAt ≡ 12) × (ticketAt ≡ 23) × (acceptingAt ≡ 27) × (guardsAt ≡ 30) × (altlistAt ≡ 142)

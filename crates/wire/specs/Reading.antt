@@ -25,7 +25,7 @@ unfoldable pub actionOf : List ℕ → Action
 actionOf bytes = getD (Action.Receive ∷ []) (byte bytes 0) (Action.Send (messageOf (drop sentAt bytes)))
 
 unfoldable pub guardOf : List ℕ → Guard
-guardOf bytes = record { enabled = not (eqb (byte bytes 0) 0); partner = byte bytes 1; kind = byte bytes 2; action = actionOf (drop actionAt bytes) }
+guardOf bytes = record { enabled = not (eqb (byte bytes 0) 0); partner = byte bytes 1; kind = byte bytes 2; rank = byte bytes 3; action = actionOf (drop actionAt bytes) }
 
 unfoldable pub placeOf : List ℕ → Place
 placeOf bytes =

@@ -21,7 +21,7 @@ actionBytes Action.Receive = 0 ∷ messageBytes Message.Nothing
 actionBytes (Action.Send m) = 1 ∷ messageBytes m
 
 unfoldable pub guardBytes : Guard → List ℕ
-guardBytes g = flag (g .enabled) ∷ g .partner ∷ g .kind ∷ actionBytes (g .action)
+guardBytes g = flag (g .enabled) ∷ g .partner ∷ g .kind ∷ g .rank ∷ actionBytes (g .action)
 
 -- the variant, the index or, at S, the steps, the kept index and the message, 0 or nothing where a place has none
 unfoldable pub placeBytes : Place → List ℕ

@@ -12,8 +12,8 @@ pub const SECOND_AT: usize = FIRST_AT + WORD_BYTES;
 
 pub const MESSAGE_BYTES: usize = SECOND_AT + WORD_BYTES;
 
-// A guard: enabled, the partner, the kind, the action, which is its variant and a message.
-pub const ACTION_AT: usize = 3;
+// A guard: enabled, the partner, the kind, the rank, the action, which is its variant and a message.
+pub const ACTION_AT: usize = 4;
 
 pub const SENT_AT: usize = 1;
 

@@ -52,6 +52,7 @@ fn guard_of(bytes: &[u8]) -> Guard
         enabled: byte_at(bytes, 0) != 0,
         partner: byte_at(bytes, 1),
         kind: byte_at(bytes, 2),
+        rank: byte_at(bytes, 3),
         action: action,
     }
 }

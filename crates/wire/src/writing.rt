@@ -50,13 +50,13 @@ fn put_with_message(out: &mut [u8], bytes: &[u8], m: Message)
     put_bytes(out, bytes.len(), &message);
 }
 
-// A guard: enabled, the partner, the kind, the action's variant, its message.
-fn four_and_message(a: u8, b: u8, c: u8, d: u8, m: Message) -> [u8; layout::GUARD_BYTES]
-    ensures { λ r. ⌜ r ≡ a ∷ b ∷ c ∷ d ∷ messageBytes m ⌝ }
+// A guard: enabled, the partner, the kind, the rank, the action's variant, its message.
+fn five_and_message(a: u8, b: u8, c: u8, d: u8, e: u8, m: Message) -> [u8; layout::GUARD_BYTES]
+    ensures { λ r. ⌜ r ≡ a ∷ b ∷ c ∷ d ∷ e ∷ messageBytes m ⌝ }
 {
     let mut out = [0u8; layout::GUARD_BYTES];
-    let four = [a, b, c, d];
-    put_with_message(&mut out, &four, m);
+    let five = [a, b, c, d, e];
+    put_with_message(&mut out, &five, m);
     out
 }
 
@@ -66,8 +66,10 @@ fn guard_bytes(g: Guard) -> [u8; layout::GUARD_BYTES]
     let enabled = flag_byte(g.enabled);
     let action = g.action;
     match action {
-        Action::Receive => four_and_message(enabled, g.partner, g.kind, 0, Message::Nothing),
-        Action::Send(m) => four_and_message(enabled, g.partner, g.kind, 1, m),
+        Action::Receive => {
+            five_and_message(enabled, g.partner, g.kind, g.rank, 0, Message::Nothing)
+        }
+        Action::Send(m) => five_and_message(enabled, g.partner, g.kind, g.rank, 1, m),
     }
 }
 
