@@ -9,7 +9,7 @@ use native.Mathlib.Omega.{arith}
 use borrow.Author.Tests.{eq-eqb, ne-eqb}
 use lib.ListN.{length, getD, drop}
 use Rattle.text.specs.Reading.{byteNumber}
-use Rattle.command.specs.Commands.{isEmpty, messageBy, messageIn, actionBy, actionIn, guardFrom, plainGuardIn, kindIn}
+use Rattle.command.specs.Commands.{isEmpty, messageBy, messageIn, actionBy, actionIn, guardFrom, plainGuardIn, markedIn}
 
 pub empty-of : (s : List ℕ) → length s ≡ 0 → s ≡ []
 empty-of [] e = refl
@@ -56,11 +56,11 @@ unfolding plainGuardIn
 guard-enabled [] h e = absurd (h refl)
 guard-enabled (b ∷ bs) h e = rw (ne-eqb b (code "-") e)
 
-pub kind-left-out : (s : List ℕ) → length s ≡ 0 → kindIn s ≡ some 0
-unfolding kindIn
-kind-left-out s e = rw (empty-of s e)
+pub marked-nothing : (s : List ℕ) → length s ≡ 0 → markedIn s ≡ some 0
+unfolding markedIn
+marked-nothing s e = rw (empty-of s e)
 
-pub kind-after : (s : List ℕ) → (length s ≡ 0 → ⊥) → kindIn s ≡ byteNumber (drop 1 s)
-unfolding kindIn
-kind-after [] h = absurd (h refl)
-kind-after (b ∷ bs) h = refl
+pub marked-after : (s : List ℕ) → (length s ≡ 0 → ⊥) → markedIn s ≡ byteNumber (drop 1 s)
+unfolding markedIn
+marked-after [] h = absurd (h refl)
+marked-after (b ∷ bs) h = refl

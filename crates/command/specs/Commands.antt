@@ -1,4 +1,4 @@
--- To be believed. Document 01, "The script program", and CRs 1 to 3 of document 02: what a line says. `none` where it says no command: the line is malformed.
+-- To be believed. Document 01, "The script program", and CRs 1, 2, 3 and 5 of document 02: what a line says. `none` where it says no command: the line is malformed.
 use Prim.Native.Nat.{ℕ, suc}
 use Prim.Native.Char.{code}
 use mathlib.Core.Bool.{Bool, true, false, not, cond}
@@ -7,7 +7,7 @@ use mathlib.Core.Option.{Option, some, none}
 use lib.ListN.{take, drop}
 use lib.Dec.{eqb}
 use lib.Ieee.{binary32, ofBits}
-use Rattle.alternative.specs.Guards.{ofKind}
+use Rattle.alternative.specs.Guards.{ofKind, ofRank}
 use Rattle.text.specs.Types.{_>>=_}
 use Rattle.text.specs.Reading.{isDigit, provided, byteNumber, whole, hexWord}
 use Rattle.command.specs.Types.{Message, Action, Guard, Offer, Step, Collect, Withdraw, Command, New, Do, Movers}
@@ -83,7 +83,7 @@ leading test (b ∷ bs) = cond (test b) (suc (leading test bs)) 0
 abbrev pub digitCount : List ℕ → ℕ
 digitCount bs = leading isDigit bs
 
--- "the partner in the same decimal form, and then" the action. The kind is 0 until guardIn gives it another.
+-- "the partner in the same decimal form, and then" the action. Kind and rank are 0 until kindedGuardIn and guardIn give it others.
 unfoldable pub guardFrom : Bool → List ℕ → Option Guard
 guardFrom enabled bs = do
   partner ← byteNumber (take (digitCount bs) bs)
@@ -103,17 +103,24 @@ isNot c b = not (eqb b c)
 abbrev pub before : ℕ → List ℕ → ℕ
 before c bs = leading (isNot c) bs
 
--- CR 2: "The script writes `:k`, k formed like N, after the guard; left out, the kind is 0": what stands after the guard is nothing, or a `:`, since guardIn cuts there, and k
-unfoldable pub kindIn : List ℕ → Option ℕ
-kindIn [] = some 0
-kindIn (colon ∷ k) = byteNumber k
+-- "k formed like N" behind a mark: what stands after a cut is nothing, which says 0, or the mark that was cut at, and k
+unfoldable pub markedIn : List ℕ → Option ℕ
+markedIn [] = some 0
+markedIn (mark ∷ k) = byteNumber k
 
--- a guard, and its kind after it: the field is cut before its first `:`, and no guard of document 01 has one
+-- CR 2: "The script writes `:k`, k formed like N, after the guard; left out, the kind is 0": the bytes are cut before their first `:`, and no guard of document 01 has one
+unfoldable pub kindedGuardIn : List ℕ → Option Guard
+kindedGuardIn bs = do
+  guard ← plainGuardIn (take (before (code ":") bs) bs)
+  kind ← markedIn (drop (before (code ":") bs) bs)
+  some (ofKind kind guard)
+
+-- CR 5: a rank, "written `^k` after the kind or, without one, after the guard, 0 if left out": the field is cut before its first `^`, and no guard or kind has one
 unfoldable pub guardIn : List ℕ → Option Guard
 guardIn bs = do
-  guard ← plainGuardIn (take (before (code ":") bs) bs)
-  kind ← kindIn (drop (before (code ":") bs) bs)
-  some (ofKind kind guard)
+  guard ← kindedGuardIn (take (before (code "^") bs) bs)
+  rank ← markedIn (drop (before (code "^") bs) bs)
+  some (ofRank rank guard)
 
 -- "G..": "no guards or more", one in each field
 unfoldable pub guardsIn : List (List ℕ) → Option (List Guard)

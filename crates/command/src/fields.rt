@@ -1,4 +1,4 @@
-// Parts of a line: where a field ends, or a guard before its kind, and a number that is the only field.
+// Parts of a line: where a field ends, or a guard before its kind or rank, and a number that is the only field.
 use text::ByteNumber;
 use text::read_byte_number;
 ghost use mathlib.Core.Path.{_≡_};

@@ -1,4 +1,4 @@
-// A guard of an offer: whether it is enabled, its partner, its action, and its kind.
+// A guard of an offer: whether it is enabled, its partner, its action, its kind, and its rank.
 use crate::ReadAction;
 use crate::ReadGuard;
 use crate::ReadMessage;
@@ -7,12 +7,13 @@ use crate::messages::read_message;
 use alternative::Action;
 use alternative::Guard;
 use alternative::of_kind;
+use alternative::of_rank;
 use text::ByteNumber;
 use text::is_digit;
 use text::read_byte_number;
 ghost use mathlib.Core.Path.{_≡_};
 ghost use Rattle.text.specs.Types.{byteRead};
-ghost use Rattle.command.specs.Commands.{sendIn, actionIn, digitCount, guardFrom, plainGuardIn, kindIn, guardIn};
+ghost use Rattle.command.specs.Commands.{sendIn, actionIn, digitCount, guardFrom, plainGuardIn, markedIn, kindedGuardIn, guardIn};
 ghost use Rattle.command.specs.Private.{actionRead, guardRead};
 
 // The bytes after a `!`.
@@ -84,7 +85,7 @@ fn guard_from(enabled: bool, s: &[u8]) -> ReadGuard
     }
 }
 
-// A guard without its kind.
+// A guard without its kind and rank.
 fn read_plain_guard(s: &[u8]) -> ReadGuard
     ensures { λ r. ⌜ guardRead r ≡ plainGuardIn (now (s .entry)) ⌝ }
 {
@@ -97,9 +98,9 @@ fn read_plain_guard(s: &[u8]) -> ReadGuard
     guard_from(true, s)
 }
 
-// The kind after a guard: 0 if nothing stands there, else the number after the first byte, which is the `:`.
-fn read_kind(s: &[u8]) -> ByteNumber
-    ensures { λ r. ⌜ byteRead r ≡ kindIn (now (s .entry)) ⌝ }
+// A number behind its mark: 0 if nothing stands there, else the number after the first byte, which is the mark.
+fn read_marked(s: &[u8]) -> ByteNumber
+    ensures { λ r. ⌜ byteRead r ≡ markedIn (now (s .entry)) ⌝ }
 {
     if s.len() == 0 {
         return ByteNumber::Value(0);
@@ -107,16 +108,30 @@ fn read_kind(s: &[u8]) -> ByteNumber
     read_byte_number(&s[1..])
 }
 
-// A guard and its kind: all bytes of its field.
-pub fn read_guard(s: &[u8]) -> ReadGuard
-    ensures { λ r. ⌜ guardRead r ≡ guardIn (now (s .entry)) ⌝ }
+// A guard and its kind.
+fn read_kinded_guard(s: &[u8]) -> ReadGuard
+    ensures { λ r. ⌜ guardRead r ≡ kindedGuardIn (now (s .entry)) ⌝ }
 {
     let end = length_before(b':', s);
     match read_plain_guard(&s[..end]) {
         ReadGuard::Malformed => ReadGuard::Malformed,
-        ReadGuard::Value(guard) => match read_kind(&s[end..]) {
+        ReadGuard::Value(guard) => match read_marked(&s[end..]) {
             ByteNumber::Malformed => ReadGuard::Malformed,
             ByteNumber::Value(kind) => ReadGuard::Value(of_kind(guard, kind)),
+        },
+    }
+}
+
+// A guard, its kind and its rank: all bytes of its field.
+pub fn read_guard(s: &[u8]) -> ReadGuard
+    ensures { λ r. ⌜ guardRead r ≡ guardIn (now (s .entry)) ⌝ }
+{
+    let end = length_before(b'^', s);
+    match read_kinded_guard(&s[..end]) {
+        ReadGuard::Malformed => ReadGuard::Malformed,
+        ReadGuard::Value(guard) => match read_marked(&s[end..]) {
+            ByteNumber::Malformed => ReadGuard::Malformed,
+            ByteNumber::Value(rank) => ReadGuard::Value(of_rank(guard, rank)),
         },
     }
 }
