@@ -24,7 +24,7 @@ typedef struct {
 
 typedef struct {
     unsigned long line;
-    char words[160];
+    char words[224];
     Text wanted; /* where the bits differ: what they should be */
 } Station;
 
@@ -87,20 +87,21 @@ static Text message_in(const uint8_t *bytes) {
     return m;
 }
 
-/* Kind 0 is shown as scripts mostly write it: left out. */
-static Text kind_in(const uint8_t *guard) {
-    Text k = {""};
-    unsigned kind = guard[RENDEZVOUS_GUARD_KIND];
-    if (kind > 0) snprintf(k.text, sizeof k.text, ":%u", kind);
-    return k;
+/* The kind and the rank. 0 is shown as scripts mostly write it: left out. */
+static Text marks_in(const uint8_t *guard) {
+    Text m = {""};
+    unsigned kind = guard[RENDEZVOUS_GUARD_KIND], rank = guard[RENDEZVOUS_GUARD_RANK];
+    int length = kind > 0 ? snprintf(m.text, sizeof m.text, ":%u", kind) : 0;
+    if (rank > 0) snprintf(m.text + length, sizeof m.text - length, "^%u", rank);
+    return m;
 }
 
 static Text guard_in(const uint8_t *process, unsigned list, unsigned i) {
     const uint8_t *bytes = guard_at(process, list, i);
     bool sends = bytes[RENDEZVOUS_GUARD_SENDS];
     Text g, message = sends ? message_in(bytes + RENDEZVOUS_GUARD_MESSAGE) : (Text){""};
-    snprintf(g.text, sizeof g.text, "%s%u%s%.20s%.4s", bytes[RENDEZVOUS_GUARD_ENABLED] ? "" : "-", bytes[RENDEZVOUS_GUARD_PARTNER], sends ? "!" : "?",
-             message.text, kind_in(bytes).text);
+    snprintf(g.text, sizeof g.text, "%s%u%s%.20s%.8s", bytes[RENDEZVOUS_GUARD_ENABLED] ? "" : "-", bytes[RENDEZVOUS_GUARD_PARTNER], sends ? "!" : "?",
+             message.text, marks_in(bytes).text);
     return g;
 }
 
@@ -121,23 +122,29 @@ static char place(const uint8_t *session, unsigned p) {
     return letters[at];
 }
 
-/* Guard i as the script's line of an offer, `o P G..`, writes it, but for `:0`: that is left out, as in guard_in. */
+/* Takes a mark with 0 out of a guard as written, `:0` or `^0`. The number after a mark has no leading zeros: one that begins with 0 is 0. */
+static void leave_out_zero(char *guard, char mark) {
+    char *at = strchr(guard, mark);
+    if (at && at[1] == '0') memmove(at, at + 2, strlen(at + 2) + 1);
+}
+
+/* Guard i as the script's line of an offer, `o P G..`, writes it, but for `:0` and `^0`: they are left out, as in guard_in. */
 static Text guard_written(const char *offer, unsigned i) {
     Text g = {""};
-    char *kind;
     for (unsigned field = 0; field < i + 2 && offer; field++)
         if ((offer = strchr(offer, ' '))) offer++;
     if (!offer) fail("the table has a guard that the script has not");
     snprintf(g.text, sizeof g.text, "%.*s", (int)strcspn(offer, " \n"), offer);
-    if ((kind = strchr(g.text, ':')) && strcmp(kind, ":0") == 0) *kind = 0;
+    leave_out_zero(g.text, ':');
+    leave_out_zero(g.text, '^');
     return g;
 }
 
-/* The message of a guard as written, which ends before the kind. */
+/* The message of a guard as written, which ends before the kind and the rank. */
 static Text message_written(Text guard) {
     const char *mark = strchr(guard.text, '!');
     Text m = {"0"};
-    if (mark) snprintf(m.text, sizeof m.text, "%.*s", (int)strcspn(mark + 1, ":"), mark + 1);
+    if (mark) snprintf(m.text, sizeof m.text, "%.*s", (int)strcspn(mark + 1, ":^"), mark + 1);
     return m;
 }
 
@@ -259,6 +266,24 @@ static void join(Story *story, unsigned p, unsigned i) {
     for (unsigned what = OFFERS; what < ALONE; what++) add_seen(story, p, what);
 }
 
+/* Whether a posted guard matches the one that process p commits at, which is enabled and names the poster. */
+static bool matches(const uint8_t *posted, const uint8_t *guard, unsigned p) {
+    return posted[RENDEZVOUS_GUARD_ENABLED] && posted[RENDEZVOUS_GUARD_PARTNER] == p && posted[RENDEZVOUS_GUARD_SENDS] != guard[RENDEZVOUS_GUARD_SENDS] &&
+           posted[RENDEZVOUS_GUARD_KIND] == guard[RENDEZVOUS_GUARD_KIND];
+}
+
+/* Why posted guard j was kept, where it is not the first of the partner's that matches. */
+static Text reason(const uint8_t *partner, unsigned j, const uint8_t *guard, unsigned p) {
+    Text why = {""};
+    for (unsigned k = 0; k < j; k++) {
+        const uint8_t *posted = guard_at(partner, RENDEZVOUS_RECORD_POSTED, k);
+        if (!matches(posted, guard, p)) continue;
+        snprintf(why.text, sizeof why.text, "; posted guard %u is the first that matches, but its rank is %u", k, posted[RENDEZVOUS_GUARD_RANK]);
+        break;
+    }
+    return why;
+}
+
 static void commits(unsigned p) {
     const uint8_t *own = record(after, p);
     unsigned i = own[RENDEZVOUS_RECORD_INDEX], j = own[RENDEZVOUS_RECORD_KEPT];
@@ -273,8 +298,8 @@ static void commits(unsigned p) {
     Story *story = begin(sends ? p : q, sends ? q : p, message_written(sends ? wanted : partners));
     join(story, q, j);
     join(story, p, i);
-    Station *station = add(story, line, "process %u commits at its guard %u (%s) to posted guard %u of process %u (%s), whose wake count becomes %d", p, i,
-                           mine.text, j, q, kept.text, wake_count_in(partner));
+    Station *station = add(story, line, "process %u commits at its guard %u (%s) to posted guard %u of process %u (%s), whose wake count becomes %d%s", p, i,
+                           mine.text, j, q, kept.text, wake_count_in(partner), reason(partner, j, guard, p).text);
     want(station, mine, wanted);
     want(station, kept, partners);
 }

@@ -1,6 +1,6 @@
 /* The proved library for C: the calls on a process table and the script program, on lent bytes. A program includes this file and links
    libexports.a. Every function of the library is proved for all arguments; what each gives is defined in crates/wire/specs and
-   crates/exports/specs. The five at the end, which only lay bytes out, are C.
+   crates/exports/specs. The six at the end, which only lay bytes out, are C.
 
    docs/BYTES.md has the bytes of a table, a guard, an answer and a session. Any bytes, RENDEZVOUS_TABLE_BYTES of them, are a table. A
    call that changes nothing, a refused one among them, writes the table that it read: the same bytes, but for such as no call writes
@@ -36,8 +36,9 @@
 #define RENDEZVOUS_GUARD_ENABLED 0
 #define RENDEZVOUS_GUARD_PARTNER 1
 #define RENDEZVOUS_GUARD_KIND 2
-#define RENDEZVOUS_GUARD_SENDS 3
-#define RENDEZVOUS_GUARD_MESSAGE 4
+#define RENDEZVOUS_GUARD_RANK 3
+#define RENDEZVOUS_GUARD_SENDS 4
+#define RENDEZVOUS_GUARD_MESSAGE 5
 #define RENDEZVOUS_GUARD_BYTES (RENDEZVOUS_GUARD_MESSAGE + RENDEZVOUS_MESSAGE_BYTES)
 #define RENDEZVOUS_LIST_BYTES (RENDEZVOUS_GUARDS * RENDEZVOUS_GUARD_BYTES)
 
@@ -146,7 +147,7 @@ static inline void rendezvous_put_word(uint8_t *bytes, uint32_t word) {
     for (int k = 0; k < RENDEZVOUS_WORD_BYTES; k++) bytes[k] = word >> 8 * k;
 }
 
-/* A guard that receives, to RENDEZVOUS_GUARD_BYTES. Its kind is 0. */
+/* A guard that receives, to RENDEZVOUS_GUARD_BYTES. Its kind and rank are 0. */
 static inline void rendezvous_receives(uint8_t *guard, bool enabled, uint8_t partner) {
     for (int k = 0; k < RENDEZVOUS_GUARD_BYTES; k++) guard[k] = 0;
     guard[RENDEZVOUS_GUARD_ENABLED] = enabled;
@@ -154,7 +155,7 @@ static inline void rendezvous_receives(uint8_t *guard, bool enabled, uint8_t par
 }
 
 /* A guard that sends a message of a variant: a whole number or the bits of a reading in `first`, the bits of a limit's low and high in
-   both. Its kind is 0. */
+   both. Its kind and rank are 0. */
 static inline void rendezvous_sends(uint8_t *guard, bool enabled, uint8_t partner, uint8_t variant, uint32_t first, uint32_t second) {
     uint8_t *message = guard + RENDEZVOUS_GUARD_MESSAGE;
     rendezvous_receives(guard, enabled, partner);
@@ -166,5 +167,9 @@ static inline void rendezvous_sends(uint8_t *guard, bool enabled, uint8_t partne
 
 /* Gives a guard that is laid out a kind: it matches only guards of the same kind. */
 static inline void rendezvous_of_kind(uint8_t *guard, uint8_t kind) { guard[RENDEZVOUS_GUARD_KIND] = kind; }
+
+/* Gives a guard that is laid out a rank: where several guards of a process that waits match, the one of greatest rank meets, the first
+   among equals. Who scans still goes by the order of its list. */
+static inline void rendezvous_of_rank(uint8_t *guard, uint8_t rank) { guard[RENDEZVOUS_GUARD_RANK] = rank; }
 
 #endif

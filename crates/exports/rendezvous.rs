@@ -2,7 +2,7 @@
 //! script program, on lent bytes. A program takes this file as `mod rendezvous;` and links
 //! libexports.a; nothing here needs more than `core`. Each function passes its arguments on to the
 //! library's, which is proved for all of them; what it gives is defined in crates/wire/specs and
-//! crates/exports/specs. `word`, `receives`, `sends` and `of_kind`, which only lay
+//! crates/exports/specs. `word`, `receives`, `sends`, `of_kind` and `of_rank`, which only lay
 //! bytes out, are Rust.
 //!
 //! docs/BYTES.md has the bytes of a table, a guard, an answer and a session.
@@ -38,8 +38,9 @@ pub const MESSAGE_BYTES: usize = MESSAGE_SECOND + WORD_BYTES;
 pub const GUARD_ENABLED: usize = 0;
 pub const GUARD_PARTNER: usize = 1;
 pub const GUARD_KIND: usize = 2;
-pub const GUARD_SENDS: usize = 3;
-pub const GUARD_MESSAGE: usize = 4;
+pub const GUARD_RANK: usize = 3;
+pub const GUARD_SENDS: usize = 4;
+pub const GUARD_MESSAGE: usize = 5;
 pub const GUARD_BYTES: usize = GUARD_MESSAGE + MESSAGE_BYTES;
 pub const LIST_BYTES: usize = GUARDS * GUARD_BYTES;
 
@@ -221,7 +222,7 @@ pub fn word(bytes: &[u8]) -> u32 {
     u32::from_le_bytes([bytes[0], bytes[1], bytes[2], bytes[3]])
 }
 
-/// A guard that receives. Its kind is 0.
+/// A guard that receives. Its kind and rank are 0.
 pub fn receives(enabled: bool, partner: u8) -> [u8; GUARD_BYTES] {
     let mut guard = [0; GUARD_BYTES];
     guard[GUARD_ENABLED] = enabled as u8;
@@ -230,7 +231,7 @@ pub fn receives(enabled: bool, partner: u8) -> [u8; GUARD_BYTES] {
 }
 
 /// A guard that sends a message of a variant: a whole number or the bits of a reading in `first`, the
-/// bits of a limit's low and high in both. Its kind is 0.
+/// bits of a limit's low and high in both. Its kind and rank are 0.
 pub fn sends(
     enabled: bool,
     partner: u8,
@@ -250,6 +251,13 @@ pub fn sends(
 /// The guard with a kind: it matches only guards of the same kind.
 pub fn of_kind(mut guard: [u8; GUARD_BYTES], kind: u8) -> [u8; GUARD_BYTES] {
     guard[GUARD_KIND] = kind;
+    guard
+}
+
+/// The guard with a rank: where several guards of a process that waits match, the one of greatest
+/// rank meets, the first among equals. Who scans still goes by the order of its list.
+pub fn of_rank(mut guard: [u8; GUARD_BYTES], rank: u8) -> [u8; GUARD_BYTES] {
+    guard[GUARD_RANK] = rank;
     guard
 }
 

@@ -7,8 +7,9 @@
    A line is written before its call is made, so that the log of a program that stops ends with the call that it was in. Where tasks
    share a table, write it under the lock that the call is made under: the lines then stand in the order of the calls. A log begins
    where its table is made. A line longer than 200 bytes has 8 in the script. Where the offer was refused, by 3 say, the table stays the
-   same either way. But an offer of eight guards, most of them limits, whose kinds have two digits or more can be accepted and have so long a line: the
-   script then goes on without it. Where every kind is below 10, no accepted offer is so long. */
+   same either way. But an offer of eight guards, most of them limits, whose kinds and ranks have many digits can be accepted and have so
+   long a line: the script then goes on without it. Where each guard has a kind or a rank below 10, and the other is 0, no accepted offer
+   is so long. */
 #include "rendezvous.h"
 #include <stdio.h>
 #include <stdlib.h>
@@ -31,6 +32,7 @@ static void write_guard(FILE *to, const uint8_t *guard) {
     fprintf(to, " %s%u%c", guard[RENDEZVOUS_GUARD_ENABLED] ? "" : "-", guard[RENDEZVOUS_GUARD_PARTNER], sends ? '!' : '?');
     if (sends) write_message(to, guard + RENDEZVOUS_GUARD_MESSAGE);
     if (guard[RENDEZVOUS_GUARD_KIND] != 0) fprintf(to, ":%u", guard[RENDEZVOUS_GUARD_KIND]);
+    if (guard[RENDEZVOUS_GUARD_RANK] != 0) fprintf(to, "^%u", guard[RENDEZVOUS_GUARD_RANK]);
 }
 
 /* What a call answered, as the script program prints it. */
@@ -73,7 +75,7 @@ static void next(bool called, const char *call) {
     print_answer(call);
 }
 
-/* Naps of one step are logged as a script mostly writes them: left out, as kind 0 is. */
+/* Naps of one step are logged as a script mostly writes them: left out, as kind 0 and rank 0 are. */
 static void create(uint8_t n, uint8_t nap) {
     const char *call = begin('n', n);
     if (nap != 1) fprintf(script, " %u", nap);
