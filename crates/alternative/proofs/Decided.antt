@@ -8,12 +8,12 @@ use native.Mathlib.Omega.{arith}
 use lib.ListN.{getD, getElem?, length}
 use Rattle.alternative.specs.Types.{Guard, Found}
 use Rattle.alternative.specs.Guards.{blank, guardsMatch, keptMatch}
-use Rattle.alternative.specs.Ranks.{Matches, Kept, firstMatch, RanksDecide}
+use Rattle.alternative.specs.Ranks.{Matches, Kept, AllOfRank, firstMatch, RanksDecide}
 use Rattle.alternative.proofs.Search.{first-view}
 use Rattle.alternative.proofs.Kept.{rankAt, Best, blank-unmatched, matching-below, best-kept, none-kept, kept-view}
 
 -- a guard that stands in a list is what is read there
-standing : (hs : List Guard) (k : ℕ) (h : Guard) → getElem? hs k ≡ some h → getD hs k blank ≡ h
+pub standing : (hs : List Guard) (k : ℕ) (h : Guard) → getElem? hs k ≡ some h → getD hs k blank ≡ h
 standing [] k h e = cc
 standing (g ∷ gs) zero h e = cc
 standing (g ∷ gs) (suc k) h e = standing gs k h e
@@ -58,7 +58,7 @@ module _ (p : ℕ) (g : Guard) (q : ℕ) where
     missing = kept-view p g q hs (λ (f : Found). f ≡ Found.Missing → (k : ℕ) (h : Guard) → Matches p g q hs k h → ⊥) (λ j b e. absurd (false≢true cc)) (λ n e k h m. n k (matched k h m))
 
     -- of guards of one rank the first that matches is the best
-    as-before : (r : ℕ) → ((k : ℕ) (h : Guard) → getElem? hs k ≡ some h → h .rank ≡ r) → keptMatch p g q hs ≡ firstMatch p g q hs
+    as-before : (r : ℕ) → AllOfRank r hs → keptMatch p g q hs ≡ firstMatch p g q hs
     as-before r one = first-view (λ (f : Found). keptMatch p g q hs ≡ f) (guardsMatch p g q) hs 0 (blank-unmatched p g q hs)
         (λ j e n. best-kept p g q hs j (best j e n) ∙ ap Found.At (omega arith)) (none-kept p g q hs)
       where

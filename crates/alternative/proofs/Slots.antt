@@ -14,7 +14,7 @@ blanks-at zero i = refl
 blanks-at (suc r) zero = refl
 blanks-at (suc r) (suc i) = blanks-at r i
 
-blank-past : (gs : List Guard) (r i : ℕ) → getD (gs ++ replicate r blank) i blank ≡ getD gs i blank
+pub blank-past : (gs : List Guard) (r i : ℕ) → getD (gs ++ replicate r blank) i blank ≡ getD gs i blank
 blank-past [] r i = blanks-at r i
 blank-past (g ∷ gs) r zero = refl
 blank-past (g ∷ gs) r (suc i) = blank-past gs r i

@@ -13,6 +13,10 @@ pub record Kept (p : ℕ) (g : Guard) (q : ℕ) (hs : List Guard) (j : ℕ) : Ty
   pub greatest : (k : ℕ) (h : Guard) → Matches p g q hs k h → h .rank ≤ kept .rank
   pub first : (k : ℕ) (h : Guard) → Matches p g q hs k h → k < j → h .rank < kept .rank
 
+-- all guards of the list have rank r
+abbrev pub AllOfRank : ℕ → List Guard → Type 0
+AllOfRank r hs = (k : ℕ) (h : Guard) → getElem? hs k ≡ some h → h .rank ≡ r
+
 -- document 01's rule 7, without ranks: of the guards that match, "the first such index is kept"
 abbrev pub firstMatch : ℕ → Guard → ℕ → List Guard → Found
 firstMatch p g q hs = firstFrom (guardsMatch p g q) hs 0
@@ -25,4 +29,4 @@ pub record RanksDecide : Type 0 where
   pub missing : (p : ℕ) (g : Guard) (q : ℕ) (hs : List Guard) → keptMatch p g q hs ≡ Found.Missing → (k : ℕ) (h : Guard) → Matches p g q hs k h → ⊥
   pub none : (p : ℕ) (g : Guard) (q : ℕ) (hs : List Guard) → ((k : ℕ) (h : Guard) → Matches p g q hs k h → ⊥) → keptMatch p g q hs ≡ Found.Missing
   -- and where all guards have one rank, "0 if left out", it is document 01's
-  pub as-before : (p : ℕ) (g : Guard) (q : ℕ) (hs : List Guard) (r : ℕ) → ((k : ℕ) (h : Guard) → getElem? hs k ≡ some h → h .rank ≡ r) → keptMatch p g q hs ≡ firstMatch p g q hs
+  pub as-before : (p : ℕ) (g : Guard) (q : ℕ) (hs : List Guard) (r : ℕ) → AllOfRank r hs → keptMatch p g q hs ≡ firstMatch p g q hs

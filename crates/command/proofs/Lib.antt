@@ -5,3 +5,4 @@ pub mod Cuts
 pub mod GuardFields
 pub mod Growing
 pub mod Letters
+pub mod Unranked

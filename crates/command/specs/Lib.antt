@@ -4,3 +4,4 @@ pub mod InCode
 pub mod Private
 pub mod Cases
 pub mod KindLeftOut
+pub mod RankLeftOut

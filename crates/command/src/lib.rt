@@ -8,6 +8,7 @@ ghost use mathlib.Core.Path.{_≡_};
 ghost use Rattle.command.specs.Cases.{LineCases};
 ghost use Rattle.command.specs.InCode.{plain};
 ghost use Rattle.command.specs.KindLeftOut.{KindLeftOut};
+ghost use Rattle.command.specs.RankLeftOut.{RankLeftOut};
 
 mod commands;
 mod fields;
@@ -73,7 +74,12 @@ pub fn line_cases()
     ensures { λ _. ⌜ LineCases ⌝ }
 {}
 
-// Carries that a guard without a `:` is read as it was before there were kinds, with kind 0.
+// Carries that a guard without a `:` and a rank is read as it was before there were kinds, with kind 0.
 pub fn kind_left_out()
     ensures { λ _. ⌜ KindLeftOut ⌝ }
+{}
+
+// Carries that a guard without a `^` is read as it was before there were ranks, with rank 0, and that a line without one offers no other.
+pub fn rank_left_out()
+    ensures { λ _. ⌜ RankLeftOut ⌝ }
 {}

@@ -20,6 +20,8 @@ pub mod NothingLost
 pub mod Once
 pub mod OneKind
 pub mod Places
+pub mod RankCases
+pub mod Ranked
 pub mod Replies
 pub mod Rest
 pub mod Starred

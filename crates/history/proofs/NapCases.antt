@@ -8,7 +8,7 @@ use lib.ListN.{replicate}
 use lib.Dec.{ltb}
 use lib.Ieee.{ofBits}
 use borrow.Author.Tests.{le-leb, lt-ltb, le-ltb}
-use Rattle.alternative.specs.Guards.{guardsMatch, anyGuard, offersMatch, firstFrom, keptMatch, nextEnabled, slots, lent}
+use Rattle.alternative.specs.Guards.{guardsMatch, anyGuard, offersMatch, firstFrom, outranked, keptMatch, nextEnabled, slots, lent}
 use Rattle.alternative.specs.declared.Guard.{Guard}
 use Rattle.process.specs.declared.{Signal.Signal, Place.Place, Process.Process}
 use Rattle.process.specs.Process.{freshProcess}
@@ -28,7 +28,7 @@ use Rattle.history.specs.NapCases.{withNap, crossing, crossingCalls, sto
 
 -- the computation, before all that rests on lemmas: with a definition under which a case comes out otherwise it fails first
 stories-hold : Hold stories
-unfolding guardsMatch anyGuard firstFrom keptMatch nextEnabled slots lent scanFrom handOver rule allGuards allBelow countFits napFits partnerFits listFits processFits fitsAt wellFormed requireGuards createVerdict tableVerdict processVerdict listVerdict stateVerdict offerVerdict withdrawVerdict create entering offered offerList effectOn stepped step collect withdraw setBelow runnableSet runnable replyTo afterAll replyToCommand allSaid stories flatten ofBits lib.Ieee.isNan
+unfolding guardsMatch anyGuard firstFrom outranked keptMatch nextEnabled slots lent scanFrom handOver rule allGuards allBelow countFits napFits partnerFits listFits processFits fitsAt wellFormed requireGuards createVerdict tableVerdict processVerdict listVerdict stateVerdict offerVerdict withdrawVerdict create entering offered offerList effectOn stepped step collect withdraw setBelow runnableSet runnable replyTo afterAll replyToCommand allSaid stories flatten ofBits lib.Ieee.isNan
 stories-hold = refl
 
 -- a step of a well-formed table is the rule's
@@ -136,5 +136,5 @@ module _ (d : ℕ) (naps : 1 ≤ d) where
       ∙ second-enters
 
 pub nap-cases-hold : NapCases
-unfolding guardsMatch anyGuard offersMatch firstFrom keptMatch nextEnabled slots lent scanFrom handOver rule allGuards allBelow countFits napFits partnerFits listFits processFits fitsAt wellFormed requireGuards createVerdict tableVerdict processVerdict listVerdict stateVerdict offerVerdict withdrawVerdict create entering offered offerList effectOn stepped step collect withdraw setBelow runnableSet runnable replyTo afterAll replyToCommand allSaid stories flatten ofBits lib.Ieee.isNan
+unfolding guardsMatch anyGuard offersMatch firstFrom outranked keptMatch nextEnabled slots lent scanFrom handOver rule allGuards allBelow countFits napFits partnerFits listFits processFits fitsAt wellFormed requireGuards createVerdict tableVerdict processVerdict listVerdict stateVerdict offerVerdict withdrawVerdict create entering offered offerList effectOn stepped step collect withdraw setBelow runnableSet runnable replyTo afterAll replyToCommand allSaid stories flatten ofBits lib.Ieee.isNan
 nap-cases-hold = record { cases = stories-hold; counts = refl; begins = refl; matching = λ d. refl; reached = reached; endless = endless }

@@ -12,3 +12,5 @@ pub mod KindsNeverCross
 pub mod NapsLast
 pub mod NapCases
 pub mod KindCases
+pub mod GreatestRankKept
+pub mod RankCases

@@ -7,6 +7,8 @@ ghost use Rattle.history.specs.Further.{Further, Demand3AtEnds};
 ghost use Rattle.history.specs.Withdrawals.{Withdrawals};
 ghost use Rattle.history.specs.KindsNeverCross.{KindsNeverCross};
 ghost use Rattle.history.specs.KindCases.{KindCases};
+ghost use Rattle.history.specs.GreatestRankKept.{GreatestRankKept};
+ghost use Rattle.history.specs.RankCases.{RankCases};
 ghost use Rattle.history.specs.NapsLast.{NapsLast};
 ghost use Rattle.history.specs.NapCases.{NapCases};
 
@@ -53,6 +55,16 @@ pub fn kinds_never_cross()
 // Carries the cases of kinds: in each of them the definitions say what document 02 says.
 pub fn kind_cases()
     ensures { λ _. ⌜ KindCases ⌝ }
+{}
+
+// Carries the claim that in every list of calls each rendezvous keeps, of the guards that match, the one of greatest rank, the first among equals.
+pub fn greatest_rank_kept()
+    ensures { λ _. ⌜ GreatestRankKept ⌝ }
+{}
+
+// Carries the cases of ranks: in each of them the definitions say what document 02 says.
+pub fn rank_cases()
+    ensures { λ _. ⌜ RankCases ⌝ }
 {}
 
 // Carries the claim that in every list of calls a nap lasts its length: d steps in a row are answered S, and the next is not, unless the

@@ -5,5 +5,6 @@ pub mod Lengths
 pub mod Movers
 pub mod Sets
 pub mod Steps
+pub mod Unranked
 pub mod Verdicts
 pub mod Withdrawals

@@ -2,7 +2,7 @@
 use mathlib.Core.Path.{refl}
 use mathlib.Core.List.{flatten}
 use lib.Ieee.{ofBits, toBits}
-use Rattle.alternative.specs.Guards.{guardsMatch, anyGuard, firstFrom, keptMatch, nextEnabled, slots, lent}
+use Rattle.alternative.specs.Guards.{guardsMatch, anyGuard, firstFrom, outranked, keptMatch, nextEnabled, slots, lent}
 use Rattle.process.specs.Rules.{scanFrom, handOver, rule}
 use Rattle.process.specs.Fits.{allGuards, partnerFits, listFits, processFits}
 use Rattle.rendezvous.specs.WellFormed.{allBelow, countFits, napFits, fitsAt, wellFormed}
@@ -16,12 +16,12 @@ use Rattle.text.specs.Digits.{placeFrom, hexDigit, hexGlyph}
 use Rattle.text.specs.Reading.{decimalFrom, decimal, byteNumber, whole, hexFrom, hexWord}
 use Rattle.text.specs.Writing.{decimalUpTo, wholeText, hexUpTo}
 use Rattle.command.specs.Commands.{fields, wholeIn, readingIn, limitIn, messageBy, messageIn, sendIn, actionBy, actionIn, leading, guardFrom, plainGuardIn}
-use Rattle.command.specs.Commands.{kindIn, guardIn, guardsIn, numberIn, napIn, newIn, offerIn, numbered, byLetter, commandIn, commandOf}
+use Rattle.command.specs.Commands.{markedIn, kindedGuardIn, guardIn, guardsIn, numberIn, napIn, newIn, offerIn, numbered, byLetter, commandIn, commandOf}
 use Rattle.script.specs.Printing.{messageText, answerText}
 use Rattle.script.specs.Lines.{linesFrom, lineCommand}
 use Rattle.script.specs.Session.{replyFrom, answered, turn, printedBy, output}
 use Rattle.script.specs.Examples.{offerLine, MarkedSession, CarriedMessages, MalformedLines, ClosedSlots, TwoSensors, Naps}
 
 pub examples-hold : MarkedSession × CarriedMessages × MalformedLines × ClosedSlots × TwoSensors × Naps
-unfolding guardsMatch anyGuard firstFrom keptMatch nextEnabled slots lent scanFrom handOver rule allGuards allBelow countFits napFits partnerFits listFits processFits fitsAt wellFormed requireGuards createVerdict tableVerdict processVerdict listVerdict stateVerdict offerVerdict withdrawVerdict create entering offered offerList effectOn stepped step collect withdraw setBelow runnableSet runnable replyTo replyToCommand placeFrom hexDigit hexGlyph decimalFrom decimal byteNumber whole hexFrom hexWord decimalUpTo wholeText hexUpTo fields wholeIn readingIn limitIn messageBy messageIn sendIn actionBy actionIn leading guardFrom plainGuardIn kindIn guardIn guardsIn numberIn napIn newIn offerIn numbered byLetter commandIn commandOf messageText answerText linesFrom lineCommand replyFrom answered turn printedBy output bytes offerLine flatten ofBits toBits lib.Ieee.isNan
+unfolding guardsMatch anyGuard firstFrom outranked keptMatch nextEnabled slots lent scanFrom handOver rule allGuards allBelow countFits napFits partnerFits listFits processFits fitsAt wellFormed requireGuards createVerdict tableVerdict processVerdict listVerdict stateVerdict offerVerdict withdrawVerdict create entering offered offerList effectOn stepped step collect withdraw setBelow runnableSet runnable replyTo replyToCommand placeFrom hexDigit hexGlyph decimalFrom decimal byteNumber whole hexFrom hexWord decimalUpTo wholeText hexUpTo fields wholeIn readingIn limitIn messageBy messageIn sendIn actionBy actionIn leading guardFrom plainGuardIn markedIn kindedGuardIn guardIn guardsIn numberIn napIn newIn offerIn numbered byLetter commandIn commandOf messageText answerText linesFrom lineCommand replyFrom answered turn printedBy output bytes offerLine flatten ofBits toBits lib.Ieee.isNan
 examples-hold = (refl, refl, refl, refl, refl, refl)

@@ -5,3 +5,4 @@ pub mod Lists
 pub mod Outputs
 pub mod Texts
 pub mod Turns
+pub mod WithoutRanks

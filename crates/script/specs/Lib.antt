@@ -4,4 +4,5 @@ pub mod Lines
 pub mod Session
 pub mod Feeding
 pub mod Examples
+pub mod WithoutRanks
 pub mod Private

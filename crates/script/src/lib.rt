@@ -2,6 +2,7 @@
 use rendezvous::ProcessTable;
 ghost use Rattle.script.specs.Examples.{MarkedSession, CarriedMessages, MalformedLines, ClosedSlots, TwoSensors, Naps};
 ghost use Rattle.script.specs.Feeding.{Pieces};
+ghost use Rattle.script.specs.WithoutRanks.{WithoutRanks};
 
 mod acting;
 mod feeding;
@@ -64,4 +65,9 @@ pub fn two_sensors()
 // Carries naps of three own steps and of one, and how they are written, byte for byte.
 pub fn naps()
     ensures { λ _. ⌜ Naps ⌝ }
+{}
+
+// Carries the claim that a script without a `^` does what it did before there were ranks.
+pub fn without_ranks()
+    ensures { λ _. ⌜ WithoutRanks ⌝ }
 {}
