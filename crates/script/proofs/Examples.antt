@@ -20,8 +20,8 @@ use Rattle.command.specs.Commands.{markedIn, kindedGuardIn, guardIn, guardsIn, 
 use Rattle.script.specs.Printing.{messageText, answerText}
 use Rattle.script.specs.Lines.{linesFrom, lineCommand}
 use Rattle.script.specs.Session.{replyFrom, answered, turn, printedBy, output}
-use Rattle.script.specs.Examples.{offerLine, MarkedSession, CarriedMessages, MalformedLines, ClosedSlots, TwoSensors, Naps}
+use Rattle.script.specs.Examples.{offerLine, MarkedSession, CarriedMessages, MalformedLines, ClosedSlots, TwoSensors, Naps, AlarmFirst}
 
-pub examples-hold : MarkedSession × CarriedMessages × MalformedLines × ClosedSlots × TwoSensors × Naps
+pub examples-hold : MarkedSession × CarriedMessages × MalformedLines × ClosedSlots × TwoSensors × Naps × AlarmFirst
 unfolding guardsMatch anyGuard firstFrom outranked keptMatch nextEnabled slots lent scanFrom handOver rule allGuards allBelow countFits napFits partnerFits listFits processFits fitsAt wellFormed requireGuards createVerdict tableVerdict processVerdict listVerdict stateVerdict offerVerdict withdrawVerdict create entering offered offerList effectOn stepped step collect withdraw setBelow runnableSet runnable replyTo replyToCommand placeFrom hexDigit hexGlyph decimalFrom decimal byteNumber whole hexFrom hexWord decimalUpTo wholeText hexUpTo fields wholeIn readingIn limitIn messageBy messageIn sendIn actionBy actionIn leading guardFrom plainGuardIn markedIn kindedGuardIn guardIn guardsIn numberIn napIn newIn offerIn numbered byLetter commandIn commandOf messageText answerText linesFrom lineCommand replyFrom answered turn printedBy output bytes offerLine flatten ofBits toBits lib.Ieee.isNan
-examples-hold = (refl, refl, refl, refl, refl, refl)
+examples-hold = (refl, refl, refl, refl, refl, refl, refl)

@@ -72,8 +72,8 @@ unfolding lineCommand
 line-bare line lacks = go (leb (length line) mostBytes)
   where
     go : (fits : Bool) → BareCommand (cond fits (commandOf line) none)
-    go true p gs = rank-left-out .lines line p gs lacks
-    go false p gs e = λ k h f. cc
+    go true = λ p gs. rank-left-out .lines line p gs lacks
+    go false = λ p gs e k h f. cc
 
 lacks-more : (c b : ℕ) (bs : List ℕ) → Lacks c bs → (b ≡ c → ⊥) → Lacks c (bs ++ b ∷ [])
 lacks-more c b [] h n = (n, tt)
@@ -83,12 +83,12 @@ lacks-more c b (a ∷ bs) h n = (h .0, lacks-more c b bs (h .1) n)
 each-table : (input begun : List ℕ) → Lacks (code "^") begun → Lacks (code "^") input → (table : Option ProcessTable) → Bare table → EachTable AsBefore table (linesFrom begun input)
 unfolding EachTable linesFrom lineCommand
 each-table [] [] before after table bare = as-before table bare
-each-table [] (b ∷ begun) before after table bare = (as-before table bare, as-before _ (turn-bare table none bare (λ p gs e k h f. cc)))
+each-table [] (b ∷ begun) before after table bare = (as-before table bare, as-before (turn table none .table) (turn-bare table none bare (λ p gs e k h f. cc)))
 each-table (b ∷ bs) begun before after table bare = go (eqb b endOfLine) (each-table bs [] tt (after .1)) (each-table bs (begun ++ b ∷ []) (lacks-more (code "^") b begun before (after .0)) (after .1))
   where
     go : (ends : Bool) → ((table : Option ProcessTable) → Bare table → EachTable AsBefore table (linesFrom [] bs)) → ((table : Option ProcessTable) → Bare table → EachTable AsBefore table (linesFrom (begun ++ b ∷ []) bs))
         → EachTable AsBefore table (cond ends (Ended begun ∷ linesFrom [] bs) (linesFrom (begun ++ b ∷ []) bs))
-    go true next more = (as-before table bare, next _ (turn-bare table (lineCommand (Ended begun)) bare (line-bare begun before)))
+    go true next more = (as-before table bare, next (turn table (lineCommand (Ended begun)) .table) (turn-bare table (lineCommand (Ended begun)) bare (line-bare begun before)))
     go false next more = more table bare
 
 pub without-ranks : WithoutRanks

@@ -1,4 +1,4 @@
--- To be believed. Document 01, "The script program": the marked session, byte for byte; limits and whole numbers; what gives 8; and, of document 02, slots that close (CR 1), two sensors (CR 2) and naps (CR 3).
+-- To be believed. Document 01, "The script program": the marked session, byte for byte; limits and whole numbers; what gives 8; and, of document 02, slots that close (CR 1), two sensors (CR 2), naps (CR 3) and an alarm (CR 5).
 use Prim.Native.Nat.{ℕ}
 use mathlib.Core.Path.{_≡_}
 use mathlib.Core.List.{List, _++_, flatten}
@@ -54,3 +54,10 @@ abbrev pub Naps : Type 0
 Naps =
     output (bytes "n 1 0\nn 2 0\nn 2 256\nn 2 3\no 0 1!r40970a3d\no 1 0?\ns 0\ns 1\ns 0\ns 1\ns 1\nm\ns 1\ns 1\ns 0\ns 1\ns 1\ns 0\nm\nn 2\no 0 1?\no 1 0!0\ns 0\ns 1\ns 1\ns 1\n")
     ≡ bytes "x 1\nx 15\nx 8\nn 2\no 0 t0\no 1 t1\ns 0 A0\ns 1 A0\ns 0 =\ns 1 S\ns 1 S\nm 00000003\ns 1 S\ns 1 A0\ns 0 =\ns 1 S\ns 1 S\ns 0 P\nm 00000003\nn 2\no 0 t0\no 1 t1\ns 0 A0\ns 1 A0\ns 1 S\ns 1 A0\n"
+
+-- CR 5: "The alarm must beat the trend line where one guard of the scanning task matches both." Process 1 waits with the trend line, 184, and behind it the alarm, 17, of rank 9; the one guard
+-- of process 0 keeps the alarm. A rank "after the kind" is no rank before it, `^00` has a leading zero, and `^0` may be written.
+abbrev pub AlarmFirst : Type 0
+AlarmFirst =
+    output (bytes "n 2\no 1 0!w184 0!w17^9\ns 1\ns 1\ns 1\ns 1\ns 1\ns 1\no 0 1?\ns 0\ns 0\ns 0\ns 0\ns 1\nc 0\nc 1\no 0 1?^1:2\no 0 1?^00\no 0 1?:2^0\n")
+    ≡ bytes "n 2\no 1 t0\ns 1 A0\ns 1 A1\ns 1 P\ns 1 O\ns 1 H\ns 1 W\no 0 t1\ns 0 A0\ns 0 T0\ns 0 C0\ns 0 M\ns 1 M\nc 0 0 1 w17\nc 1 1 0 0\nx 8\nx 8\no 0 t2\n"

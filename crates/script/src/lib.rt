@@ -1,6 +1,6 @@
 // The script program of documents 01 and 02, from all input bytes to all output bytes: its lines, commands, calls and printed lines.
 use rendezvous::ProcessTable;
-ghost use Rattle.script.specs.Examples.{MarkedSession, CarriedMessages, MalformedLines, ClosedSlots, TwoSensors, Naps};
+ghost use Rattle.script.specs.Examples.{MarkedSession, CarriedMessages, MalformedLines, ClosedSlots, TwoSensors, Naps, AlarmFirst};
 ghost use Rattle.script.specs.Feeding.{Pieces};
 ghost use Rattle.script.specs.WithoutRanks.{WithoutRanks};
 
@@ -65,6 +65,11 @@ pub fn two_sensors()
 // Carries naps of three own steps and of one, and how they are written, byte for byte.
 pub fn naps()
     ensures { λ _. ⌜ Naps ⌝ }
+{}
+
+// Carries an alarm that beats a trend line by its rank, and how ranks are written, byte for byte.
+pub fn alarm_first()
+    ensures { λ _. ⌜ AlarmFirst ⌝ }
 {}
 
 // Carries the claim that a script without a `^` does what it did before there were ranks.

@@ -30,11 +30,15 @@ loop-again c =
     let a = l .before .before .args in
     let matches : Guard → Bool = guardsMatch (a .p) (a .g) (a .q) in
     let here = getD-take (a .count) (a .t4) (l .loop .k) blank (omega arith) in
-    let turn = c .before .before .guards-match .ensures in
-    (i .0, i .1, omega arith, ⊎-elim
-    (λ w. rw (w .2, w .3) (takes matches (take (a .count) (a .t4)) (l .loop .k) (l .loop .kept) (l .loop .least) _ here (i .3) (rw (← turn) (w .0 .taken))))
-    (λ w. rw (w .1, w .2) (leaves matches (take (a .count) (a .t4)) (l .loop .k) (l .loop .kept) (l .loop .least) _ here (i .3) (rw (← turn) (w .0 .left))))
-    (c .if1 .came))
+    let turn = c .before .before .guards-match .ensures in (
+      i .0,
+      i .1,
+      omega arith,
+      ⊎-elim
+          (λ w. rw (w .2, w .3) (takes matches (take (a .count) (a .t4)) (l .loop .k) (l .loop .kept) (l .loop .least) _ here (i .3) (rw (← turn) (w .0 .taken))))
+          (λ w. rw (w .1, w .2) (leaves matches (take (a .count) (a .t4)) (l .loop .k) (l .loop .kept) (l .loop .least) _ here (i .3) (rw (← turn) (w .0 .left))))
+          (c .if1 .came),
+    )
 
 returns : tie.Need-returns Inv-loop μ-loop
 returns c =
