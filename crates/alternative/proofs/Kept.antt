@@ -2,7 +2,7 @@
 use Prim.Native.Nat.{ℕ, zero, suc, _+_, _≤_, _<_}
 use mathlib.Core.Path.{_≡_, refl, sym, _∙_, ap, subst, subst⁻¹}
 use mathlib.Core.Bool.{Bool, true, false, not, _&&_, false≢true}
-use mathlib.Core.List.{List, [], _∷_}
+use mathlib.Core.List.{List}
 use mathlib.Core.Logic.{⊎-elim}
 use native.Mathlib.Nat.{le-of-suc-le-suc, eq-or-lt-of-le}
 use native.Mathlib.Numerals.{add-one}
@@ -11,7 +11,7 @@ use lib.ListN.{getD, length, List·getD-eq-default}
 use lib.Dec.{ltb, leb}
 use borrow.Author.Tests.{ltb-true, ltb-false, leb-true, leb-false, lt-ltb, le-ltb, not-true}
 use Rattle.alternative.specs.Types.{Guard, Found}
-use Rattle.alternative.specs.Guards.{blank, plainMatch, guardsMatch, anyGuard, firstFrom, outranked, keptMatch}
+use Rattle.alternative.specs.Guards.{blank, plainMatch, guardsMatch, outranked, keptMatch}
 use Rattle.alternative.proofs.Search.{first-view, first-at, any-some, any-none}
 use Rattle.alternative.proofs.Tests.{and-parts}
 

@@ -1,4 +1,4 @@
--- A guard without a `:` is read as document 01 has it, and its kind is 0; one without a `^` is read as before there were ranks, and its rank is 0, and so are those of a line without one.
+-- A guard without a `:` is read as document 01 has it, and its kind is 0; one without a `^` is read as before there were ranks, and its rank is 0.
 use Prim.Native.Nat.{ℕ, suc}
 use Prim.Native.Char.{code}
 use mathlib.Core.Path.{_≡_, refl, sym, ap, subst}

@@ -1,4 +1,4 @@
--- A line without a `^` offers guards of rank 0 alone.
+-- Fields and lines without a `^` are read as before there were ranks, and offer guards of rank 0 alone.
 use Prim.Native.Nat.{ℕ, zero, suc}
 use Prim.Native.Char.{code}
 use mathlib.Core.Path.{_≡_, refl, sym, _∙_, subst}
@@ -6,20 +6,14 @@ use mathlib.Core.Bool.{Bool, true, false, cond}
 use mathlib.Core.List.{List, [], _∷_}
 use mathlib.Core.Option.{Option, some, none}
 use lib.Dec.{eqb}
-use lib.ListN.{getElem?}
 use Rattle.alternative.specs.Ranks.{AllOfRank}
 use Rattle.text.specs.Types.{_>>=_}
 use Rattle.text.specs.Reading.{provided, byteNumber}
 use Rattle.command.specs.Types.{Guard, Offer, Step, Collect, Withdraw, Command, New, Do, Movers}
 use Rattle.command.specs.Commands.{putBefore, fields, isEmpty, guardIn, guardsIn, numberIn, offerIn, napIn, newIn, numbered, byLetter, commandIn, commandOf}
 use Rattle.command.specs.KindLeftOut.{Lacks}
-use Rattle.command.specs.RankLeftOut.{RankLeftOut}
-use Rattle.command.proofs.LeftOut.{rank-as-before, rank-zero}
-
--- each field lacks the byte
-abbrev EachLacks : ℕ → List (List ℕ) → Type 0
-EachLacks c [] = Unit {0}
-EachLacks c (f ∷ fs) = Lacks c f × EachLacks c fs
+use Rattle.command.specs.RankLeftOut.{EachLacks, kindedGuardsIn, RankLeftOut}
+use Rattle.command.proofs.LeftOut.{kind-left-out, rank-as-before, rank-zero}
 
 put-lacks : (c b : ℕ) (fs : List (List ℕ)) → (b ≡ c → ⊥) → EachLacks c fs → EachLacks c (putBefore b fs)
 put-lacks c b [] h e = ((h, tt), tt)
@@ -33,6 +27,11 @@ fields-lack c (b ∷ bs) h = go (eqb b (code " ")) (fields-lack c bs (h .1))
     go : (t : Bool) → EachLacks c (fields bs) → EachLacks c (cond t ([] ∷ fields bs) (putBefore b (fields bs)))
     go true rest = (tt, rest)
     go false rest = put-lacks c b (fields bs) (h .0) rest
+
+guards-as-before : (fs : List (List ℕ)) → EachLacks (code "^") fs → guardsIn fs ≡ kindedGuardsIn fs
+unfolding guardsIn
+guards-as-before [] lacks = refl
+guards-as-before (f ∷ fs) lacks = rw (rank-as-before f (lacks .0), guards-as-before fs (lacks .1))
 
 -- the guards, if any are read, have rank 0
 abbrev Bare : Option (List Guard) → Type 0
@@ -122,6 +121,8 @@ pub rank-left-out : RankLeftOut
 unfolding commandOf
 rank-left-out = record {
   as-before = rank-as-before;
+  plain = λ field no-rank no-kind. rank-as-before field no-rank ∙ kind-left-out .as-before field no-kind;
+  guards = guards-as-before;
   zero = rank-zero;
   lines = λ line p gs lacks. command-bare (fields line) (fields-lack (code "^") line lacks) p gs;
 }

@@ -95,6 +95,9 @@ pub record LineCases : Type 0 where
       × (says "o 1 ^1" ≡ none)
       × (says "o 1^1 0?" ≡ none)
       × (says "s 1^1" ≡ none)
+      × (says "c 1^1" ≡ none)
+      × (says "w 1^1" ≡ none)
+      × (says "m^1" ≡ none)
       × (says "n 2^1" ≡ none)
   -- "`n N` without a second number means 1"; 0 is a number, which the call refuses
   pub naps : (says "n 2 1" ≡ some (New 2 1))

@@ -1,5 +1,5 @@
--- To be believed. CR 2 of document 02, "left out, the kind is 0": a guard without a `:` and without a rank is read as by document 01. The function `kind_left_out` carries these
--- claims. (With `KindsRefine` of alternative, and since nothing but `guardsMatch` looks at a kind, "a script without any prints what it did.")
+-- To be believed. CR 2 of document 02, "left out, the kind is 0": what stands before the rank of a guard, without a `:`, is read as by document 01. The function `kind_left_out` carries
+-- these claims. (With `KindsRefine` of alternative, and since nothing but `guardsMatch` looks at a kind, "a script without any prints what it did.")
 use Prim.Native.Nat.{ℕ}
 use Prim.Native.Char.{code}
 use mathlib.Core.Path.{_≡_}

@@ -1,10 +1,9 @@
 -- What a match of two guards says, what the two searches in a list of guards find, and what a list that fits says of its guards.
 use Prim.Native.Nat.{ℕ, zero, suc, _+_, _-_, _≤_, _<_}
-use mathlib.Core.Path.{_≡_, refl, sym, _∙_, ap, subst}
+use mathlib.Core.Path.{_≡_, refl, sym, ap, subst}
 use mathlib.Core.List.{List, [], _∷_}
-use mathlib.Core.Bool.{Bool, true, false, not, _&&_, cond, false≢true}
+use mathlib.Core.Bool.{Bool, true, false, not, _&&_, false≢true}
 use mathlib.Core.Option.{some}
-use native.Mathlib.Nat.{add-zero}
 use native.Mathlib.Omega.{arith}
 use lib.ListN.{getD, getElem?, take, drop}
 use lib.Seq.{getD-drop}
@@ -13,7 +12,7 @@ use borrow.Author.Tests.{eqb-true, eqb-false, eq-eqb, ne-eqb, ltb-true, not-true
 use Rattle.alternative.specs.declared.Action.{Action}
 use Rattle.alternative.specs.declared.Guard.{Guard}
 use Rattle.alternative.specs.declared.Found.{Found}
-use Rattle.alternative.specs.Guards.{mostGuards, blank, opposite, plainMatch, guardsMatch, anyGuard, offersMatch, firstFrom, keptMatch, nextEnabled}
+use Rattle.alternative.specs.Guards.{mostGuards, blank, opposite, plainMatch, guardsMatch, anyGuard, offersMatch, keptMatch, nextEnabled}
 use Rattle.process.specs.Fits.{allGuards, partnerFits, listFits}
 use Rattle.alternative.proofs.Kept.{kept-view}
 use Rattle.alternative.proofs.Search.{first-view, any-none}

@@ -10,11 +10,9 @@ use lib.ListN.{getElem?}
 use Rattle.alternative.specs.declared.Guard.{Guard}
 use Rattle.alternative.specs.declared.Found.{Found}
 use Rattle.alternative.specs.Guards.{keptMatch}
-use Rattle.alternative.specs.Ranks.{Kept}
 use Rattle.alternative.proofs.Decided.{ranks-decide}
-use Rattle.rendezvous.specs.Numbers.{Said}
 use Rattle.rendezvous.specs.Run.{Call, Offer, Step, Collect, Withdraw}
-use Rattle.history.specs.Book.{Transaction, Due, Rendezvous, Moment, Joined, Withdrew, History, Seen, refused, accepted, at, takenBack, seen, _>>=_, withRendezvous, committing, stepping, enter}
+use Rattle.history.specs.Book.{Transaction, Due, Rendezvous, Moment, Joined, History, Seen, refused, accepted, at, takenBack, withRendezvous, committing, stepping, enter}
 use Rattle.history.specs.Machine.{Machine, EachCall}
 use Rattle.history.specs.GreatestRankKept.{JoinsGreatest, EntryOfGreatestRank, GreatestRankKept}
 

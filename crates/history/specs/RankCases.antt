@@ -6,7 +6,7 @@ use Rattle.rendezvous.specs.Table.{freshTable}
 use Rattle.rendezvous.specs.Numbers.{Said, made, ticket, outcome, refusal}
 use Rattle.rendezvous.specs.Run.{Call, Offer, Step, Collect}
 use Rattle.rendezvous.specs.Commands.{Do}
-use Rattle.history.specs.Types.{ℕ, _≡_, List, [], _∷_, _++_, some, none, replicate, Message, Guard}
+use Rattle.history.specs.Types.{ℕ, _≡_, false, List, [], _∷_, _++_, some, none, replicate, Message, Action, Guard}
 use Rattle.history.specs.Book.{Moment, Joined, emptyHistory, _>>=_}
 use Rattle.history.specs.Machine.{bookAfterAll, madeByAll}
 use Rattle.history.specs.Tables.{tables}
@@ -15,9 +15,12 @@ use Rattle.history.specs.Cases.{Case, Hold, case, makes, receive, send, 
 abbrev whole : ℕ → Message
 whole n = Message.Whole (pos n)
 
--- a sending guard to process 1 of rank r, with the number n
+-- a sending guard to process 1 of rank r, with the number n; and the same disabled
 abbrev ranked : ℕ → ℕ → Guard
 ranked r n = ofRank r (sends 1 (whole n))
+
+abbrev rankedOff : ℕ → ℕ → Guard
+rankedOff r n = record { enabled = false; partner = 1; kind = 0; rank = r; action = Action.Send (whole n) }
 
 -- process 0 offers the list and goes to W, by way of its enabled guards; process 1 offers one guard, commits, and both collect
 abbrev meetCalls : List Guard → List ℕ → Guard → List Call
@@ -48,15 +51,15 @@ stories =
     -- "the first among equals"
     ∷ takes (ranked 5 1 ∷ ranked 5 2 ∷ []) (0 ∷ 1 ∷ []) (receive 0) 0 1
     ∷ takes (ranked 2 1 ∷ ranked 7 2 ∷ ranked 3 3 ∷ ranked 7 4 ∷ ranked 5 5 ∷ []) (0 ∷ 1 ∷ 2 ∷ 3 ∷ 4 ∷ []) (receive 0) 1 2
-    -- "0 to 255", all of it a number
+    -- ranks are compared as numbers, "0 to 255"
     ∷ takes (ranked 254 1 ∷ ranked 255 2 ∷ []) (0 ∷ 1 ∷ []) (receive 0) 1 2
     ∷ takes (ranked 255 1 ∷ ranked 254 2 ∷ []) (0 ∷ 1 ∷ []) (receive 0) 0 1
     ∷ takes (ranked 127 1 ∷ ranked 128 2 ∷ []) (0 ∷ 1 ∷ []) (receive 0) 1 2
     ∷ takes (ranked 16 1 ∷ ranked 15 2 ∷ []) (0 ∷ 1 ∷ []) (receive 0) 0 1
     -- the eighth of eight
     ∷ takes (replicate 7 (ranked 3 1) ++ ranked 4 8 ∷ []) (0 ∷ 1 ∷ 2 ∷ 3 ∷ 4 ∷ 5 ∷ 6 ∷ 7 ∷ []) (receive 0) 7 8
-    -- "of all matching ones": a higher rank is passed over if its guard is disabled, of another kind, to another process, or no opposite
-    ∷ takes (ranked 1 1 ∷ ranked 2 2 ∷ ofRank 9 (disabled 1) ∷ []) (0 ∷ 1 ∷ []) (receive 0) 1 2
+    -- "of all matching ones": a higher rank is passed over if its guard is disabled, of another kind, no opposite, or to another process
+    ∷ takes (ranked 1 1 ∷ ranked 2 2 ∷ rankedOff 9 3 ∷ []) (0 ∷ 1 ∷ []) (receive 0) 1 2
     ∷ takes (ranked 1 1 ∷ ranked 2 2 ∷ ofKind 3 (ranked 9 3) ∷ []) (0 ∷ 1 ∷ 2 ∷ []) (receive 0) 1 2
     ∷ takes (ranked 1 1 ∷ ranked 2 2 ∷ ofRank 9 (receive 1) ∷ []) (0 ∷ 1 ∷ 2 ∷ []) (receive 0) 1 2
     ∷ case
@@ -71,6 +74,11 @@ stories =
     (made ∷ ticket 0 ∷ at "A" (some 0) ∷ at "P" none ∷ at "O" none ∷ at "H" none ∷ at "W" none
     ∷ ticket 1 ∷ at "A" (some 0) ∷ at "P" none ∷ at "O" none ∷ at "H" none ∷ at "W" none
     ∷ ticket 2 ∷ at "A" (some 0) ∷ at "T" (some 0) ∷ at "C" (some 0) ∷ at "M" none ∷ outcome 0 1 Message.Nothing ∷ [])
+    -- and so with two guards to one partner
+    ∷ case
+    (makes 2 ∷ map Do (Offer 1 (receive 0 ∷ []) ∷ replicate 5 (Step 1) ++ Offer 0 figures ∷ replicate 4 (Step 0) ++ Step 1 ∷ Collect 1 ∷ []))
+    (made ∷ ticket 0 ∷ at "A" (some 0) ∷ at "P" none ∷ at "O" none ∷ at "H" none ∷ at "W" none
+    ∷ ticket 1 ∷ at "A" (some 0) ∷ at "T" (some 0) ∷ at "C" (some 0) ∷ at "M" none ∷ at "M" none ∷ outcome 0 0 (whole 184) ∷ [])
     -- no refusal looks at a rank: 3, 4, 5 and 6
     ∷ case
     (makes 2 ∷ map Do (Offer 0 (replicate 9 (ofRank 255 (receive 1))) ∷ Offer 0 (ofRank 255 (receive 0) ∷ []) ∷ Offer 0 (ofRank 255 (send 1 0x7fc00000) ∷ []) ∷ Offer 0 (ofRank 255 (disabled 1) ∷ []) ∷ Offer 0 (ofRank 255 (receive 1) ∷ []) ∷ []))

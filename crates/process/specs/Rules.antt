@@ -1,4 +1,4 @@
--- To be believed. Document 01, "The fifteen step rules", with rule 2 as CR 3 of document 02 has it.
+-- To be believed. Document 01, "The fifteen step rules", with rules 2 and 7 as CRs 3 and 5 of document 02 have them.
 use Rattle.alternative.specs.Guards.{keptMatch, nextEnabled}
 use Rattle.alternative.specs.Exchange.{sentBy, receivedBy}
 use Rattle.process.specs.Types.{ℕ, suc, _+_, Bool, true, false, Option, some, none, ltb, Found, Signal, Place, State, Process}
@@ -51,7 +51,7 @@ scan x i State.Waiting older = Own (atPlace x (Place.Trying i))
 scan x i State.Alt true = Own (atPlace x (Place.Asleep 0))
 scan x i State.Alt false = Neither
 
--- rules 7 and 8, at T at guard i: by the partner's wake count, and what the search in its posted list finds
+-- rules 7 and 8, at T at guard i: by the partner's wake count, and what the search in its posted list finds (CR 5: the guard to be kept)
 abbrev pub try : Process → ℕ → Process → Bool → Found → Effect
 try x i y true (Found.At j) = Both (atPlace x (Place.Committed i j)) (withAccepting y false)
 try x i y true Found.Missing = scanFrom x (suc i)

@@ -8,7 +8,7 @@ use lib.Dec.{ltb}
 use Rattle.alternative.specs.declared.Guard.{Guard}
 use Rattle.alternative.specs.declared.Found.{Found}
 use Rattle.alternative.specs.Guards.{mostGuards, blank, keptMatch, slots, lent}
-use Rattle.alternative.specs.Ranks.{AllOfRank, firstMatch}
+use Rattle.alternative.specs.Ranks.{AllOfRank}
 use Rattle.alternative.proofs.Slots.{blank-past}
 use Rattle.alternative.proofs.Decided.{standing, ranks-decide}
 use Rattle.process.specs.declared.Signal.{Signal}
@@ -22,13 +22,14 @@ use Rattle.rendezvous.specs.Types.{ProcessTable, Refusal, Verdict, Reply
 use Rattle.rendezvous.specs.Table.{mostProcesses, process, put, freshTable}
 use Rattle.rendezvous.specs.Refusals.{processVerdict, offerVerdict, withdrawVerdict}
 use Rattle.rendezvous.specs.Calls.{refused, ifAccepted, entering, offered, offerList, effectOn, applied, stepped, step, collect, commitCameFirst, withdrawnOrLate, withdraw}
-use Rattle.rendezvous.specs.Run.{Call, Offer, Step, Collect, Withdraw, replyTo}
+use Rattle.rendezvous.specs.Run.{Call, Offer, Step, Collect, Withdraw, replyTo, tableAfter, afterAll, tableAfterAll}
+use Rattle.rendezvous.specs.WithoutRanks.{NoRank, NoRanks, AsBefore, CallsWithoutRanks}
 
 -- all slots of a list have rank 0
 abbrev pub Bare : List Guard → Type 0
 Bare gs = (k : ℕ) → getD gs k blank .rank ≡ 0
 
-pub bare-of : (gs : List Guard) → AllOfRank 0 gs → Bare gs
+bare-of : (gs : List Guard) → AllOfRank 0 gs → Bare gs
 bare-of [] h k = refl
 bare-of (g ∷ gs) h zero = h 0 g refl
 bare-of (g ∷ gs) h (suc k) = bare-of gs (λ i. h (suc i)) k
@@ -51,7 +52,7 @@ abbrev pub BareTable : ProcessTable → Type 0
 BareTable t = (p : ℕ) → BareRecord (process t p)
 
 -- a search in a posted list of such a table is document 01's
-pub bare-search : (t : ProcessTable) → BareTable t → (p : ℕ) (g : Guard) (q : ℕ) → let hs = postedList (process t q) in keptMatch p g q hs ≡ firstMatch p g q hs
+pub bare-search : (t : ProcessTable) → BareTable t → AsBefore t
 bare-search t bare p g q =
     let y = process t q in
     ranks-decide .as-before p g q (postedList y) 0 (λ k h e. subst (λ (h : Guard). h .rank ≡ 0) (standing (postedList y) k h e) (bare-take (y .altcount) (y .altlist) (bare q .1) k))
@@ -125,13 +126,6 @@ pub if-bare : (v : Verdict) (t : ProcessTable) (reply : Reply) → BareTable t �
 if-bare Verdict.Accepted t reply bare after = after
 if-bare (Verdict.Refused r) t reply bare after = bare
 
--- no guard that a call offers has a rank
-abbrev pub BareCall : Call → Type 0
-BareCall (Offer p gs) = Bare gs
-BareCall (Step p) = Unit {0}
-BareCall (Collect p) = Unit {0}
-BareCall (Withdraw p) = Unit {0}
-
 module _ (t : ProcessTable) (bare : BareTable t) where
   offer-bare : (p : ℕ) (gs : List Guard) → Bare gs → BareTable (offerList t p (lent gs) .table)
   unfolding offerList offered entering lent
@@ -154,9 +148,9 @@ module _ (t : ProcessTable) (bare : BareTable t) where
       by true = bare
       by false = bare-put t p _ bare (bare p)
 
-  pub call-bare : (c : Call) → BareCall c → BareTable (replyTo t c .table)
+  pub call-bare : (c : Call) → NoRank c → BareTable (replyTo t c .table)
   unfolding replyTo
-  call-bare (Offer p gs) h = offer-bare p gs h
+  call-bare (Offer p gs) h = offer-bare p gs (bare-of gs h)
   call-bare (Step p) h = step-bare p
   call-bare (Collect p) h = collect-bare p
   call-bare (Withdraw p) h = withdraw-bare p
@@ -172,3 +166,11 @@ blanks-bare n = each-replicate (λ (g : Guard). g .rank ≡ 0) n blank blank ref
 
 pub fresh-bare : (n d : ℕ) → BareTable (freshTable n d)
 fresh-bare n d = each-replicate BareRecord mostProcesses freshProcess nobody (blanks-bare mostGuards, blanks-bare mostGuards) (blanks-bare 0, blanks-bare 0)
+
+calls-bare : (t : ProcessTable) → BareTable t → (calls : List Call) → NoRanks calls → BareTable (tableAfterAll t calls)
+unfolding afterAll
+calls-bare t bare [] h = bare
+calls-bare t bare (c ∷ cs) h = calls-bare (tableAfter t c) (call-bare t bare c (h .0)) cs (h .1)
+
+pub calls-without-ranks : CallsWithoutRanks
+calls-without-ranks n d calls h = bare-search (tableAfterAll (freshTable n d) calls) (calls-bare (freshTable n d) (fresh-bare n d) calls h)

@@ -9,4 +9,5 @@ pub mod Movers
 pub mod Numbers
 pub mod Run
 pub mod Withdrawals
+pub mod WithoutRanks
 pub mod Commands

@@ -8,6 +8,7 @@ ghost use Rattle.rendezvous.specs.Forms.{FormsAreWellFormed};
 ghost use Rattle.rendezvous.specs.Acts.{ActsAreCalls};
 ghost use Rattle.rendezvous.specs.Movers.{MoversChange};
 ghost use Rattle.rendezvous.specs.Withdrawals.{WithdrawsOpen};
+ghost use Rattle.rendezvous.specs.WithoutRanks.{CallsWithoutRanks};
 
 mod acts;
 mod collect;
@@ -129,4 +130,9 @@ pub fn acts_are_calls()
 // Carries the claim that a withdrawal is answered "withdrawn" exactly where an offer is open, and that it is open no more.
 pub fn withdraws_open()
     ensures { λ _. ⌜ WithdrawsOpen ⌝ }
+{}
+
+// Carries the claim that where no guard that is offered has a rank, rule 7 keeps the guard that it kept before there were ranks.
+pub fn calls_without_ranks()
+    ensures { λ _. ⌜ CallsWithoutRanks ⌝ }
 {}

@@ -9,28 +9,27 @@ use lib.ListN.{length}
 use lib.Dec.{eqb, leb}
 use Rattle.alternative.specs.declared.Guard.{Guard}
 use Rattle.alternative.specs.Ranks.{AllOfRank}
-use Rattle.rendezvous.specs.declared.Verdict.{Verdict}
 use Rattle.rendezvous.specs.Refusals.{createVerdict, tableVerdict}
 use Rattle.rendezvous.specs.Table.{freshTable}
 use Rattle.rendezvous.specs.Calls.{create}
 use Rattle.rendezvous.specs.Movers.{runnable}
 use Rattle.rendezvous.specs.Commands.{replyToCommand}
-use Rattle.rendezvous.proofs.Unranked.{BareTable, bare-of, bare-search, call-bare, if-bare, fresh-bare}
+use Rattle.rendezvous.specs.WithoutRanks.{AsBefore}
+use Rattle.rendezvous.proofs.Unranked.{BareTable, bare-search, call-bare, if-bare, fresh-bare}
 use Rattle.command.specs.Commands.{commandOf}
 use Rattle.command.specs.KindLeftOut.{Lacks}
 use Rattle.command.proofs.Unranked.{rank-left-out}
 use Rattle.script.specs.Types.{ProcessTable, Reply, Offer, Step, Collect, Withdraw, Command, New, Do, Movers}
 use Rattle.script.specs.Printing.{commandText, endOfLine}
-use Rattle.script.specs.Lines.{Line, Ended, Unended, mostBytes, unended, linesFrom, lineCommand}
-use Rattle.script.specs.Session.{replyFrom, isRefused, answered, turnBy, turn}
-use Rattle.script.specs.WithoutRanks.{AsBefore, EachTable, WithoutRanks}
+use Rattle.script.specs.Lines.{Ended, mostBytes, linesFrom, lineCommand}
+use Rattle.script.specs.Session.{replyFrom, isRefused, answered, turn}
+use Rattle.script.specs.WithoutRanks.{IfMade, EachTable, WithoutRanks}
 
 -- the table, if there is one, has no ranks
 abbrev Bare : Option ProcessTable → Type 0
-Bare none = Unit {0}
-Bare (some t) = BareTable t
+Bare table = IfMade BareTable table
 
-as-before : (table : Option ProcessTable) → Bare table → AsBefore table
+as-before : (table : Option ProcessTable) → Bare table → IfMade AsBefore table
 as-before none bare = tt
 as-before (some t) bare = bare-search t bare
 
@@ -45,7 +44,7 @@ create-bare n d = if-bare (createVerdict n d) (freshTable 0 0) _ (fresh-bare 0 0
 reply-bare : (t : ProcessTable) (c : Command) → BareTable t → BareCommand (some c) → BareTable (replyToCommand t c .table)
 unfolding replyToCommand runnable
 reply-bare t (New n d) bare h = create-bare n d
-reply-bare t (Do (Offer p gs)) bare h = call-bare t bare (Offer p gs) (bare-of gs (h p gs refl))
+reply-bare t (Do (Offer p gs)) bare h = call-bare t bare (Offer p gs) (h p gs refl)
 reply-bare t (Do (Step p)) bare h = call-bare t bare (Step p) tt
 reply-bare t (Do (Collect p)) bare h = call-bare t bare (Collect p) tt
 reply-bare t (Do (Withdraw p)) bare h = call-bare t bare (Withdraw p) tt

@@ -56,7 +56,7 @@ Naps =
     ≡ bytes "x 1\nx 15\nx 8\nn 2\no 0 t0\no 1 t1\ns 0 A0\ns 1 A0\ns 0 =\ns 1 S\ns 1 S\nm 00000003\ns 1 S\ns 1 A0\ns 0 =\ns 1 S\ns 1 S\ns 0 P\nm 00000003\nn 2\no 0 t0\no 1 t1\ns 0 A0\ns 1 A0\ns 1 S\ns 1 A0\n"
 
 -- CR 5: "The alarm must beat the trend line where one guard of the scanning task matches both." Process 1 waits with the trend line, 184, and behind it the alarm, 17, of rank 9; the one guard
--- of process 0 keeps the alarm. A rank "after the kind" is no rank before it, `^00` has a leading zero, and `^0` may be written.
+-- of process 0 keeps the alarm. A rank before the kind gives 8, and so does `^00`; `^0` may be written.
 abbrev pub AlarmFirst : Type 0
 AlarmFirst =
     output (bytes "n 2\no 1 0!w184 0!w17^9\ns 1\ns 1\ns 1\ns 1\ns 1\ns 1\no 0 1?\ns 0\ns 0\ns 0\ns 0\ns 1\nc 0\nc 1\no 0 1?^1:2\no 0 1?^00\no 0 1?:2^0\n")
