@@ -3,7 +3,7 @@
 
 use crate::call::{Call, Given};
 use crate::desk::{OpenOffer, Outcome, Ticket, Withdrawal};
-use crate::guard::{first_match, Guard};
+use crate::guard::{best_match, Guard};
 use crate::message::Message;
 use crate::place::Answer;
 use crate::refusal::Refusal;
@@ -162,7 +162,7 @@ impl Book {
             .ok_or(Stuck::NoGuard { party: p, index: i })?;
         let q = own_guard.partner;
         let other = self.open_offer(q)?;
-        let j = first_match(p, &own_guard, &other.guards)
+        let j = best_match(p, &own_guard, &other.guards)
             .ok_or(Stuck::NoMatch { party: p, index: i })?;
         let other_guard = other.guards[j];
         let sender = if own_guard.sends() {

@@ -1,6 +1,7 @@
-//! Guards, and what it means that two of them match.
+//! Guards, what it means that two of them match, and which match is kept.
 
 use crate::message::Message;
+use std::cmp::Reverse;
 
 #[derive(Clone, Copy, Debug, PartialEq, Eq)]
 pub enum Action {
@@ -13,6 +14,8 @@ pub struct Guard {
     pub enabled: bool,
     pub partner: usize,
     pub kind: u8,
+    /// Which of several matching guards is kept; matching does not look at it.
+    pub rank: u8,
     pub action: Action,
 }
 
@@ -46,9 +49,11 @@ pub fn lists_match(p: usize, a: &[Guard], q: usize, b: &[Guard]) -> bool {
         .any(|own| b.iter().any(|other| guards_match(p, own, q, other)))
 }
 
-/// Rule 7's search: the first guard of the partner's list that matches `own`.
-pub fn first_match(p: usize, own: &Guard, partner_list: &[Guard]) -> Option<usize> {
-    partner_list
-        .iter()
-        .position(|other| guards_match(p, own, own.partner, other))
+/// Rule 7's search: of all guards of the partner's list that match `own`, the
+/// one of greatest rank, the first among equals.
+pub fn best_match(p: usize, own: &Guard, partner_list: &[Guard]) -> Option<usize> {
+    let matching = (0..partner_list.len())
+        .filter(|&index| guards_match(p, own, own.partner, &partner_list[index]));
+    // Among equals `min_by_key` gives the first one, `max_by_key` the last.
+    matching.min_by_key(|&index| Reverse(partner_list[index].rank))
 }

@@ -1,8 +1,8 @@
 //! A plain model of the desk through which the tasks of one logger meet.
 //!
-//! It is written from document 01 and requests 1 to 3 of document 02 alone,
-//! with ordinary vectors and changes in place, so that it can be compared with
-//! any other program.
+//! It is written from document 01 and requests 1 to 3 and 5 of document 02
+//! alone, with ordinary vectors and changes in place, so that it can be compared
+//! with any other program.
 
 mod book;
 pub mod by_value;

@@ -48,7 +48,8 @@ fn new(count: &[u8], nap: Option<&[u8]>) -> Option<Command> {
 }
 
 fn guard(field: &[u8]) -> Option<Guard> {
-    let (text, kind) = split_kind(field)?;
+    let (unranked, rank) = split_number(field, b'^')?;
+    let (text, kind) = split_number(unranked, b':')?;
     let (enabled, rest) = match text.strip_prefix(b"-") {
         Some(rest) => (false, rest),
         None => (true, text),
@@ -64,15 +65,17 @@ fn guard(field: &[u8]) -> Option<Guard> {
         enabled,
         partner,
         kind,
+        rank,
         action,
     })
 }
 
-/// Parts a guard from the kind after it, which is 0 if left out. Nothing else
-/// in a guard has a colon, so the first one has to begin the kind.
-fn split_kind(field: &[u8]) -> Option<(&[u8], u8)> {
-    match field.iter().position(|&byte| byte == b':') {
-        Some(colon) => Some((&field[..colon], byte(&field[colon + 1..])?)),
+/// Parts a guard from the number that `mark` begins at its end: the kind or the
+/// rank, each 0 if left out. Nothing else in a guard has that mark, so the first
+/// one has to begin the number.
+fn split_number(field: &[u8], mark: u8) -> Option<(&[u8], u8)> {
+    match field.iter().position(|&byte| byte == mark) {
+        Some(at) => Some((&field[..at], byte(&field[at + 1..])?)),
         None => Some((field, 0)),
     }
 }
@@ -95,7 +98,8 @@ fn small(field: &[u8]) -> Option<usize> {
     byte(field).map(usize::from)
 }
 
-/// 0 to 255: the form that parties, party counts, nap lengths and kinds share.
+/// 0 to 255: the form that parties, party counts, nap lengths, kinds and ranks
+/// share.
 fn byte(field: &[u8]) -> Option<u8> {
     u8::try_from(decimal(field)?).ok()
 }

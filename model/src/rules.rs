@@ -1,7 +1,7 @@
 //! The fifteen step rules. The desk must be in form and the party below n.
 
 use crate::desk::Desk;
-use crate::guard::{first_match, Guard};
+use crate::guard::{best_match, Guard};
 use crate::message::Message;
 use crate::place::{IndexedMessage, Place, Word};
 
@@ -76,7 +76,7 @@ fn try_partner(desk: &mut Desk, p: usize, own: usize) -> Place {
     let guard = desk.parties[p].guards[own];
     let partner = &mut desk.parties[guard.partner];
     if partner.wake_count == 0 {
-        if let Some(kept) = first_match(p, &guard, &partner.posted) {
+        if let Some(kept) = best_match(p, &guard, &partner.posted) {
             partner.wake_count = 1;
             return Place::Committed { own, kept };
         }

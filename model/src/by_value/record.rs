@@ -12,6 +12,7 @@ pub struct Guard {
     pub enabled: bool,
     pub partner: u8,
     pub kind: u8,
+    pub rank: u8,
     pub action: Action,
 }
 
@@ -62,6 +63,7 @@ impl Guard {
         enabled: false,
         partner: 0,
         kind: 0,
+        rank: 0,
         action: Action::Receive,
     };
 

@@ -81,7 +81,7 @@ fn try_partner(desk: &mut Desk, p: u8, own: u8) -> Place {
     let guard = *guard_at(&desk.party(p).guards, own);
     let partner = desk.party_mut(guard.partner);
     if partner.wake_count == 0 {
-        if let Some(kept) = first_match(p, &guard, &partner.posted) {
+        if let Some(kept) = best_match(p, &guard, &partner.posted) {
             partner.wake_count = 1;
             return Place::Committed { own, kept };
         }
@@ -89,9 +89,19 @@ fn try_partner(desk: &mut Desk, p: u8, own: u8) -> Place {
     enabled_from(&desk.party(p).guards, own + 1)
 }
 
-/// The first guard of the partner's posted list that matches the own one.
-fn first_match(p: u8, own: &Guard, posted: &GuardList) -> Option<u8> {
-    (0..posted.count).find(|&index| own.matches(p, guard_at(posted, index), own.partner))
+/// Of the posted guards that match the own one, the one of greatest rank. Only
+/// a greater rank takes the place of an earlier guard, so the first among equals
+/// stays.
+fn best_match(p: u8, own: &Guard, posted: &GuardList) -> Option<u8> {
+    let mut best: Option<(u8, u8)> = None;
+    for index in 0..posted.count {
+        let other = guard_at(posted, index);
+        let is_better = best.is_none_or(|(_, rank)| other.rank > rank);
+        if is_better && own.matches(p, other, own.partner) {
+            best = Some((index, other.rank));
+        }
+    }
+    best.map(|(index, _)| index)
 }
 
 /// Rule 9.

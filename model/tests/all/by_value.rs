@@ -16,6 +16,7 @@ fn guard(guard: &Guard) -> by_value::Guard {
         enabled: guard.enabled,
         partner: byte(guard.partner),
         kind: guard.kind,
+        rank: guard.rank,
         action: guard.action,
     }
 }

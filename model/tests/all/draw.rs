@@ -64,7 +64,16 @@ impl Draw {
             partner,
             // Few different kinds, so that many are equal.
             kind: [0, 0, 1, 255][self.random.below(4)],
+            rank: self.rank(),
             action,
+        }
+    }
+
+    /// A rank: few different ones, so that many are equal, or any.
+    fn rank(&mut self) -> u8 {
+        match self.random.one_in(8) {
+            true => self.random.below(256) as u8,
+            false => [0, 0, 1, 255][self.random.below(4)],
         }
     }
 

@@ -1,6 +1,6 @@
 //! Refusal 7: what it looks at, and what it leaves alone.
 
-use crate::tools::{disabled, fresh, indexed, of_kind, receive, send};
+use crate::tools::{disabled, fresh, indexed, of_kind, of_rank, receive, send};
 use model::{Desk, Message, Party, Place, Refusal, Ticket};
 
 /// Three parties in form, all with lists; party 0 is idle.
@@ -117,6 +117,9 @@ fn what_the_form_leaves_alone() {
     let kinds = vec![of_kind(1, receive(0)), of_kind(255, receive(0))];
     check_in_form("kinds", |d| d.parties[1].guards = kinds.clone());
     check_in_form("kinds", |d| d.parties[1].posted = kinds.clone());
+    let ranks = vec![of_rank(1, receive(0)), of_rank(255, receive(0))];
+    check_in_form("ranks", |d| d.parties[1].guards = ranks.clone());
+    check_in_form("ranks", |d| d.parties[1].posted = ranks.clone());
     check_in_form("equal tickets", |d| {
         d.parties[1].ticket = d.parties[0].ticket
     });

@@ -2,13 +2,11 @@
 //! at rest, and what does not look at them.
 
 use crate::tools::{
-    check_scanning, check_script, disabled, fresh, indexed, of_kind, receive, send, steps,
+    about_to_try, check_marked_session, check_scanning, check_script, disabled, enter_commit,
+    enter_offer, fresh, indexed, of_kind, outcome, receive, send, steps,
 };
-use model::guard::{first_match, guards_match, lists_match};
-use model::{
-    by_value, Action, Answer, Book, Call, Desk, Entry, Guard, Meeting, Message, Outcome, Place,
-    Stuck, Ticket, Told,
-};
+use model::guard::{best_match, guards_match, lists_match};
+use model::{by_value, Action, Book, Entry, Guard, Meeting, Message, Place, Stuck, Ticket};
 
 /// The two sensors of a pier, with one number of each.
 const TEMPERATURE: u8 = 1;
@@ -34,6 +32,7 @@ fn kinds_match_by_value(sender: u8, receiver: u8) -> bool {
         enabled: true,
         partner,
         kind,
+        rank: 0,
         action,
     };
     let a = guard(7, sender, Action::Send(EIGHTEEN));
@@ -102,23 +101,11 @@ fn senders() -> [Guard; 4] {
 
 #[test]
 fn the_search_passes_over_other_kinds() {
-    let search = |kind| first_match(0, &of_kind(kind, receive(1)), &senders());
+    let search = |kind| best_match(0, &of_kind(kind, receive(1)), &senders());
     assert_eq!(search(STRAIN), Some(2));
     assert_eq!(search(TEMPERATURE), Some(0));
     assert_eq!(search(0), None);
     assert_eq!(search(3), None);
-}
-
-/// Party 0 tries, with one guard, party 1, which waits with this posted list.
-fn about_to_try(own: Guard, posted: &[Guard]) -> Desk {
-    let mut desk = fresh(2);
-    desk.offer(1, posted).unwrap();
-    while desk.parties[1].place != Place::Waiting {
-        desk.step(1).unwrap();
-    }
-    desk.offer(0, &[own]).unwrap();
-    assert_eq!(steps(&mut desk, 0, 2), ["A0", "T0"]);
-    desk
 }
 
 #[test]
@@ -162,20 +149,6 @@ fn lists_keep_the_kinds_of_all_guards() {
     assert_eq!(kinds(&desk.open_offers()[0].guards), [7, 255, 0, 128]);
 }
 
-fn offer(book: &mut Book, party: usize, guards: &[Guard]) {
-    let guards = guards.to_vec();
-    let entry = book.feed(&Call::Offer { party, guards }, Told::Accepted);
-    assert!(entry.is_ok(), "{entry:?}");
-}
-
-fn commit(book: &mut Book, party: usize, index: usize) -> Result<Entry, Stuck> {
-    let place = Answer {
-        letter: 'C',
-        index: Some(index),
-    };
-    book.feed(&Call::Step { party }, Told::Place(place))
-}
-
 /// Forty goes over: the second offer commits to the first. Each party with the
 /// index of its guard.
 fn forty_meets([p, i]: [usize; 2], [q, j]: [usize; 2]) -> Result<Entry, Stuck> {
@@ -190,43 +163,35 @@ fn forty_meets([p, i]: [usize; 2], [q, j]: [usize; 2]) -> Result<Entry, Stuck> {
     }))
 }
 
-fn outcome(index: usize, partner: usize, message: Message) -> Option<Outcome> {
-    Some(Outcome {
-        index,
-        partner,
-        message,
-    })
-}
-
 #[test]
 fn the_book_keeps_the_first_guard_of_the_same_kind() {
     let mut book = Book::default();
-    offer(&mut book, 1, &senders());
-    offer(&mut book, 0, &[of_kind(STRAIN, receive(1))]);
-    assert_eq!(commit(&mut book, 0, 0), forty_meets([0, 0], [1, 2]));
-    assert_eq!(book.due(0), outcome(0, 1, FORTY));
-    assert_eq!(book.due(1), outcome(2, 0, Message::Nothing));
+    enter_offer(&mut book, 1, &senders());
+    enter_offer(&mut book, 0, &[of_kind(STRAIN, receive(1))]);
+    assert_eq!(enter_commit(&mut book, 0, 0), forty_meets([0, 0], [1, 2]));
+    assert_eq!(book.due(0), Some(outcome(0, 1, FORTY)));
+    assert_eq!(book.due(1), Some(outcome(2, 0, Message::Nothing)));
 }
 
 #[test]
 fn the_book_goes_by_kinds_when_the_sender_commits() {
     let mut book = Book::default();
     let receivers = [TEMPERATURE, STRAIN].map(|kind| of_kind(kind, receive(1)));
-    offer(&mut book, 0, &receivers);
-    offer(&mut book, 1, &senders());
-    assert_eq!(commit(&mut book, 1, 2), forty_meets([1, 2], [0, 1]));
-    assert_eq!(book.due(0), outcome(1, 1, FORTY));
-    assert_eq!(book.due(1), outcome(2, 0, Message::Nothing));
+    enter_offer(&mut book, 0, &receivers);
+    enter_offer(&mut book, 1, &senders());
+    assert_eq!(enter_commit(&mut book, 1, 2), forty_meets([1, 2], [0, 1]));
+    assert_eq!(book.due(0), Some(outcome(1, 1, FORTY)));
+    assert_eq!(book.due(1), Some(outcome(2, 0, Message::Nothing)));
 }
 
 #[test]
 fn the_book_is_stuck_if_every_kind_is_another() {
     let mut book = Book::default();
-    offer(&mut book, 1, &senders());
-    offer(&mut book, 0, &[of_kind(3, receive(1))]);
+    enter_offer(&mut book, 1, &senders());
+    enter_offer(&mut book, 0, &[of_kind(3, receive(1))]);
     let stuck = |party, index| Err(Stuck::NoMatch { party, index });
-    assert_eq!(commit(&mut book, 0, 0), stuck(0, 0));
-    assert_eq!(commit(&mut book, 1, 2), stuck(1, 2));
+    assert_eq!(enter_commit(&mut book, 0, 0), stuck(0, 0));
+    assert_eq!(enter_commit(&mut book, 1, 2), stuck(1, 2));
     assert_eq!(book.open_offers().len(), 2);
 }
 
@@ -320,28 +285,6 @@ fn a_trying_sender_of_two_kinds_goes_on_to_the_one_asked_for() {
         ("s 1", "s 1 M"),
         ("c 0", "c 0 1 1 0"),
         ("c 1", "c 1 2 0 w40"),
-    ]);
-}
-
-/// The marked session of document 01 with its two guards written otherwise.
-fn check_marked_session(sender: &str, receiver: &str) {
-    check_script(&[
-        ("n 2", "n 2"),
-        (&format!("o 0 {sender}"), "o 0 t0"),
-        (&format!("o 1 {receiver}"), "o 1 t1"),
-        ("s 0", "s 0 A0"),
-        ("s 0", "s 0 P"),
-        ("s 0", "s 0 O"),
-        ("s 0", "s 0 H"),
-        ("s 0", "s 0 W"),
-        ("s 1", "s 1 A0"),
-        ("s 1", "s 1 T0"),
-        ("s 1", "s 1 C0"),
-        ("s 1", "s 1 M"),
-        ("s 0", "s 0 M"),
-        ("c 1", "c 1 0 0 r40970a3d"),
-        ("c 0", "c 0 0 1 0"),
-        ("m", "m 00000000"),
     ]);
 }
 

@@ -1,6 +1,6 @@
 //! All tests of the model in one program. Expected values come from document 01
-//! and requests 1 to 3 of document 02, or from the reasoning written beside
-//! them.
+//! and requests 1 to 3 and 5 of document 02, or from the reasoning written
+//! beside them.
 
 mod book;
 mod by_value;
@@ -12,6 +12,7 @@ mod kinds;
 mod nap;
 mod orders;
 mod program;
+mod ranks;
 mod refusals;
 mod rules;
 mod runs;

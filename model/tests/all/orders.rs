@@ -1,6 +1,6 @@
 //! Every order of calls, for a few small sets of offers and withdrawals.
 
-use crate::tools::{fresh_with_nap, of_kind, receive, send};
+use crate::tools::{fresh_with_nap, of_kind, of_rank, receive, send};
 use model::{Book, Call, Desk, Guard, Message, Moment, Ticket, Told};
 use std::collections::BTreeSet;
 
@@ -143,6 +143,15 @@ fn two_with_one_kind_in_common_have_met_at_every_end() {
     let plans = [
         vec![offer(0, &[of_kind(1, sends(1)), of_kind(2, sends(1))])],
         vec![offer(1, &[of_kind(2, receive(0)), of_kind(3, receive(0))])],
+    ];
+    assert_eq!(ends(&plans), BTreeSet::from([(1, 0, 0)]));
+}
+
+#[test]
+fn two_with_guards_of_several_ranks_have_met_at_every_end() {
+    let plans = [
+        vec![offer(0, &[sends(1), of_rank(9, sends(1))])],
+        vec![offer(1, &[receive(0), of_rank(255, receive(0))])],
     ];
     assert_eq!(ends(&plans), BTreeSet::from([(1, 0, 0)]));
 }

@@ -1,9 +1,10 @@
 //! Many random lists of calls, each compared with the book along the run.
 
 use crate::tools::{fresh_with_nap, Xorshift};
+use model::guard::guards_match;
 use model::{
-    Action, Answer, Book, Call, Desk, Entry, Given, Guard, Message, Moment, Place, Refusal, Ticket,
-    Told, Withdrawal,
+    Action, Answer, Book, Call, Desk, Entry, Given, Guard, Meeting, Message, Moment, Place,
+    Refusal, Ticket, Told, Withdrawal,
 };
 use std::collections::BTreeSet;
 use std::ops::{Range, RangeInclusive};
@@ -16,6 +17,8 @@ struct Run {
     rests: usize,
     collections: usize,
     too_late: usize,
+    /// Meetings for which a rank decided.
+    by_rank: usize,
 }
 
 impl Run {
@@ -27,6 +30,7 @@ impl Run {
             rests: 0,
             collections: 0,
             too_late: 0,
+            by_rank: 0,
         }
     }
 
@@ -59,7 +63,7 @@ impl Run {
             }
             Given::Place(answer) => {
                 assert_eq!(answer.is_none(), self.desk == *before);
-                self.note_step(answer, entry);
+                self.note_step(answer, entry, before);
             }
             Given::Withdrawal(Withdrawal::Withdrawn) => self.note_withdrawal(entry),
             Given::Withdrawal(Withdrawal::TooLate) => {
@@ -70,7 +74,7 @@ impl Run {
         }
     }
 
-    fn note_step(&mut self, answer: Option<Answer>, entry: Entry) {
+    fn note_step(&mut self, answer: Option<Answer>, entry: Entry, before: &Desk) {
         let committed = answer.is_some_and(|answer| answer.letter == 'C');
         let Entry::Met(meeting) = entry else {
             assert!(!committed && entry == Entry::Unchanged);
@@ -78,6 +82,7 @@ impl Run {
         };
         assert!(committed);
         assert_eq!(self.book.meetings().last(), Some(&meeting));
+        self.by_rank += usize::from(rank_decided(&meeting, before));
         self.note_closed(&[meeting.p_ticket, meeting.q_ticket]);
     }
 
@@ -131,6 +136,14 @@ impl Run {
     }
 }
 
+/// Had the partner posted a matching guard before the one that was kept?
+fn rank_decided(meeting: &Meeting, before: &Desk) -> bool {
+    let Meeting { p, i, q, j, .. } = *meeting;
+    let own = &before.parties[p].guards[i];
+    let mut earlier = before.parties[q].posted[..j].iter();
+    earlier.any(|other| guards_match(p, own, q, other))
+}
+
 fn random_message(random: &mut Xorshift) -> Message {
     // Random bits hold a NaN now and then; the offer is then refused.
     match random.below(4) {
@@ -160,6 +173,8 @@ fn random_guard(random: &mut Xorshift, party: usize, n: usize) -> Guard {
         partner,
         // Half of all pairs are equal, so that many offers still meet.
         kind: [0, 0, 0, 0, 1, 255][random.below(6)],
+        // Few different ranks, so that many are equal.
+        rank: [0, 0, 1, 255][random.below(4)],
         action,
     }
 }
@@ -214,8 +229,9 @@ fn run_from_seed(seed: u64, parties: &RangeInclusive<usize>, calls: usize) -> Ru
     run_once(&mut random, n, nap, calls)
 }
 
-/// Runs the seeds; the counts make sure that the comparison is not empty.
-fn check_runs(seeds: Range<u64>, parties: RangeInclusive<usize>, calls: usize) {
+/// Runs the seeds; the counts make sure that the comparison is not empty. Gives
+/// the number of meetings for which a rank decided.
+fn check_runs(seeds: Range<u64>, parties: RangeInclusive<usize>, calls: usize) -> usize {
     let runs: Vec<Run> = seeds
         .map(|seed| run_from_seed(seed, &parties, calls))
         .collect();
@@ -229,19 +245,22 @@ fn check_runs(seeds: Range<u64>, parties: RangeInclusive<usize>, calls: usize) {
     assert!(meetings > runs.len() && withdrawals > runs.len());
     assert!(total(|run| run.collections) > runs.len());
     assert!(total(|run| run.too_late) > 0);
+    total(|run| run.by_rank)
 }
 
 #[test]
 fn random_runs_of_few_parties_agree_with_the_book() {
-    check_runs(1..201, 2..=4, 100);
+    assert!(check_runs(1..201, 2..=4, 100) > 10);
 }
 
 #[test]
 fn random_runs_of_some_parties_agree_with_the_book() {
-    check_runs(1000..1040, 5..=9, 200);
+    assert!(check_runs(1000..1040, 5..=9, 200) > 0);
 }
 
 #[test]
 fn random_runs_of_many_parties_agree_with_the_book() {
+    // Two guards of a list seldom name the same one of so many parties, so the
+    // ranks are left to the runs above.
     check_runs(2005..2012, 30..=32, 800);
 }

@@ -60,7 +60,9 @@ const MALFORMED_COMMANDS: &str = "\
     w  0| w 0|w 00|w 01|w 256|w 999|w -1|w -0|w +0|W 0|w0|w7|w-1|ww 0|w ?|w 1!w7|w ok|\
     n 2:0|n 2 1 |n 2  1|n 2 1 1|n 2 0 1|n 2 1 0|n 2 00|n 2 01|n 2 256|n 2 1000|n 2 -1|n 2 +1|\
     n 2 1.|n 2 a|n 2 1:0|n 2,1|n 2\t1|n 2 4294967297|\
-    o:0 0 1?|o 0:0 1?|o 0 :0|o 0 1? :0|o 0 1?: 0|s 0:0|s:0 0|c 0:0|w 0:0|m:0|:0|:";
+    o:0 0 1?|o 0:0 1?|o 0 :0|o 0 1? :0|o 0 1?: 0|s 0:0|s:0 0|c 0:0|w 0:0|m:0|:0|:|\
+    n 2^0|n 2 1^0|n^0 2|o^0 0 1?|o 0^0 1?|o 0 ^0|o 0 1? ^0|o 0 1?^ 0|o 0 1?:0 ^0|o 0 1? :0^0|\
+    s 0^0|s^0 0|c 0^0|w 0^0|m^0|^0|^";
 
 /// Parted by bars.
 const MALFORMED_GUARDS: &str = "\
@@ -90,6 +92,35 @@ const WELL_FORMED_KINDS: &str = "\
     1!w2147483647:255|1!w-2147483648:255|1!r40970a3d:7|1!l40970a3d40970a3d:200|-1?:0|-1?:3|\
     -1?:255|-1!0:0|-1!w5:255|-1!r40970a3d:1|-1!l40970a3d40970a3d:1";
 
+/// Parted by bars: ranks out of form, and ranks at another place than the end.
+const MALFORMED_RANKS: &str = "\
+    1?^|1?^00|1?^01|1?^007|1?^256|1?^257|1?^999|1?^1000|1?^4294967296|\
+    1?^18446744073709551616|1?^-1|1?^-0|1?^+1|1?^a|1?^0x1|1?^1.|1?^w1|1?^1?|1?^!0|\
+    1?^1^2|1?^0^0|1?^^1|1?^1^|1?~3|1?*3|1?'3|1^3?|1^3|1^?|1^|^|^3|^3?|^3^1?|^1?|?^3|\
+    1!^3w5|1!^3|1!^0|1!^|1^3!w5|1!w^3|1!w5^|1!w5^00|1!w5^01|1!w5^256|1!w5^-1|1!w5^1^2|\
+    1!w5^w3|1!w5^3w5|1!w^35|1!w5^3?|1!0^|1!0^00|1!0^256|1!0^3!0|1!00^3|1!w-^3|1!w05^3|\
+    1!r40970a3d^|1!r40970a3d^00|1!r40970a3d^256|1!r40970a3^1|1!r40970a3^d|1!r^340970a3d|\
+    1!l40970a3d40970a3d^|1!l40970a3d40970a3d^256|1!l40970a3d^40970a3d|\
+    1!l40970a3d^140970a3d^1|-1?^|-1?^00|-1?^256|-1?^1^2|-1^3?|-^3|^3-1?|-1!w5^|-1!w5^00|\
+    -1!w5^256|-1!^3w5|-1!w5^-3";
+
+/// Parted by bars: kinds and ranks together, in the wrong order or form.
+const MALFORMED_KINDS_WITH_RANKS: &str = "\
+    1?^1:2|1?^0:0|1?^1:|1?^:1|1?^:|1?:^|1?:^1|1?:1^|1?:1^00|1?:1^01|1?:1^256|1?:1^-1|\
+    1?:1^+1|1?:1^a|1?:00^1|1?:01^1|1?:256^1|1?:-1^1|1?:256^256|1?:1^2^3|1?:1^^2|1?:1^2^|\
+    1?::1^2|1?:1:2^3|1?:1:^3|1?:1^2:3|1?:1^2:|1?^1:2^3|1?^1^2:3|1:1^2?|1:1?^2|1^2?:1|:1^2|\
+    :1^2?|^2:1?|?:1^2|1!w5^1:2|1!w5:^1|1!w5:1^|1!w5:1^256|1!w5:256^1|1!w:1^5|1!:1w5^2|1!:1^2|\
+    1!0^1:2|1!0:1^00|1!r40970a3d^1:2|1!r40970a3d:1^256|1!r40970a3:1^2|1!l40970a3d40970a3d^1:2|\
+    1!l40970a3d:1^240970a3d|-1?^1:2|-1?:1^|-1?:1^256|-1:1^2?|-:1^2|-1!w5^1:2|-1!w5:1^01";
+
+/// Parted by bars.
+const WELL_FORMED_RANKS: &str = "\
+    1?^0|1?^1|1?^9|1?^10|1?^99|1?^100|1?^199|1?^249|1?^255|1!0^0|1!0^255|1!w5^0|1!w-5^10|\
+    1!w2147483647^255|1!w-2147483648^255|1!r40970a3d^7|1!l40970a3d40970a3d^200|-1?^0|-1?^3|\
+    -1?^255|-1!0^0|-1!w5^255|-1!r40970a3d^1|-1!l40970a3d40970a3d^1|1?:0^0|1?:255^0|1?:0^255|\
+    1?:255^255|1!0:1^2|1!w-5:10^99|1!r40970a3d:7^8|1!l40970a3d40970a3d:200^100|-1?:3^4|\
+    -1!w5:255^255|-1!l40970a3d40970a3d:1^1";
+
 #[test]
 fn malformed_commands() {
     for line in MALFORMED_COMMANDS.split('|') {
@@ -102,7 +133,13 @@ fn malformed_commands() {
 
 #[test]
 fn malformed_guards() {
-    for guard in [MALFORMED_GUARDS, MALFORMED_KINDS].join("|").split('|') {
+    let texts = [
+        MALFORMED_GUARDS,
+        MALFORMED_KINDS,
+        MALFORMED_RANKS,
+        MALFORMED_KINDS_WITH_RANKS,
+    ];
+    for guard in texts.join("|").split('|') {
         check_malformed(format!("o 0 {guard}").as_bytes());
         // Late in a line it still comes before every other refusal: guard 0
         // names the party itself, and party 9 is none.
@@ -112,8 +149,9 @@ fn malformed_guards() {
 }
 
 #[test]
-fn well_formed_kinds() {
-    for guard in WELL_FORMED_KINDS.split('|') {
+fn well_formed_kinds_and_ranks() {
+    let texts = [WELL_FORMED_KINDS, WELL_FORMED_RANKS].join("|");
+    for guard in texts.split('|') {
         // The last guard is enabled, whatever the others are.
         let line = format!("o 0 {guard} 1? {guard} 1?:5");
         check_script(&[("n 2", "n 2"), (&line, "o 0 t0")]);
@@ -130,6 +168,19 @@ fn line_length_with_kinds() {
         ("n 2", "n 2"),
         (&format!("{line}:99"), "x 8"),
         (&format!("{line}:9"), "o 0 t0"),
+    ]);
+}
+
+#[test]
+fn line_length_with_ranks() {
+    // 3 bytes, 6 guards of 29 with their spaces and one of 20 make 197.
+    let guard = "1!l40970a3d40970a3d";
+    let line = format!("o 0{} {guard}", format!(" -{guard}:255^255").repeat(6));
+    assert_eq!(line.len(), 197);
+    check_script(&[
+        ("n 2", "n 2"),
+        (&format!("{line}^100"), "x 8"),
+        (&format!("{line}^99"), "o 0 t0"),
     ]);
 }
 

@@ -1,7 +1,10 @@
 //! Small helpers that the tests share.
 
 use model::script::run;
-use model::{Action, Desk, Guard, IndexedMessage, Message};
+use model::{
+    Action, Answer, Book, Call, Desk, Entry, Guard, IndexedMessage, Message, Outcome, Place, Stuck,
+    Told,
+};
 
 /// A small random generator with a fixed seed, so that every run is the same.
 pub struct Xorshift(u64);
@@ -38,6 +41,7 @@ pub fn receive(partner: usize) -> Guard {
         enabled: true,
         partner,
         kind: 0,
+        rank: 0,
         action: Action::Receive,
     }
 }
@@ -47,6 +51,7 @@ pub fn send(partner: usize, message: Message) -> Guard {
         enabled: true,
         partner,
         kind: 0,
+        rank: 0,
         action: Action::Send(message),
     }
 }
@@ -62,8 +67,20 @@ pub fn of_kind(kind: u8, guard: Guard) -> Guard {
     Guard { kind, ..guard }
 }
 
+pub fn of_rank(rank: u8, guard: Guard) -> Guard {
+    Guard { rank, ..guard }
+}
+
 pub fn indexed(index: usize, message: Message) -> IndexedMessage {
     IndexedMessage { index, message }
+}
+
+pub fn outcome(index: usize, partner: usize, message: Message) -> Outcome {
+    Outcome {
+        index,
+        partner,
+        message,
+    }
 }
 
 /// A fresh desk with the shortest nap.
@@ -83,6 +100,34 @@ pub fn steps(desk: &mut Desk, party: usize, count: usize) -> Vec<String> {
             None => "=".to_string(),
         })
         .collect()
+}
+
+/// Party 0 tries, with one guard, party 1, which waits with this posted list.
+pub fn about_to_try(own: Guard, posted: &[Guard]) -> Desk {
+    let mut desk = fresh(2);
+    desk.offer(1, posted).unwrap();
+    while desk.parties[1].place != Place::Waiting {
+        desk.step(1).unwrap();
+    }
+    desk.offer(0, &[own]).unwrap();
+    assert_eq!(steps(&mut desk, 0, 2), ["A0", "T0"]);
+    desk
+}
+
+/// Feeds the book an accepted offer.
+pub fn enter_offer(book: &mut Book, party: usize, guards: &[Guard]) {
+    let guards = guards.to_vec();
+    let entry = book.feed(&Call::Offer { party, guards }, Told::Accepted);
+    assert!(entry.is_ok(), "{entry:?}");
+}
+
+/// Feeds the book a commit of the party with its guard at this index.
+pub fn enter_commit(book: &mut Book, party: usize, index: usize) -> Result<Entry, Stuck> {
+    let place = Answer {
+        letter: 'C',
+        index: Some(index),
+    };
+    book.feed(&Call::Step { party }, Told::Place(place))
 }
 
 /// Runs a script given as pairs of an input line and its output line.
@@ -107,5 +152,27 @@ pub fn check_scanning(older: &str, younger: &str) {
         ("m", "m 00000002"),
         ("s 1", "s 1 S"),
         ("s 0", "s 0 P"),
+    ]);
+}
+
+/// The marked session of document 01 with its two guards written otherwise.
+pub fn check_marked_session(sender: &str, receiver: &str) {
+    check_script(&[
+        ("n 2", "n 2"),
+        (&format!("o 0 {sender}"), "o 0 t0"),
+        (&format!("o 1 {receiver}"), "o 1 t1"),
+        ("s 0", "s 0 A0"),
+        ("s 0", "s 0 P"),
+        ("s 0", "s 0 O"),
+        ("s 0", "s 0 H"),
+        ("s 0", "s 0 W"),
+        ("s 1", "s 1 A0"),
+        ("s 1", "s 1 T0"),
+        ("s 1", "s 1 C0"),
+        ("s 1", "s 1 M"),
+        ("s 0", "s 0 M"),
+        ("c 1", "c 1 0 0 r40970a3d"),
+        ("c 0", "c 0 0 1 0"),
+        ("m", "m 00000000"),
     ]);
 }

@@ -1,7 +1,7 @@
 //! Messages by their bits, words, and what it means to match.
 
 use crate::tools::{disabled, fresh, indexed, receive, send};
-use model::guard::{first_match, guards_match, lists_match};
+use model::guard::{best_match, guards_match, lists_match};
 use model::{Message, Place, Word};
 
 fn reading(bits: u32) -> Message {
@@ -88,7 +88,7 @@ fn lists_match_by_any_two_guards() {
 }
 
 #[test]
-fn the_search_gives_the_first_match() {
+fn the_search_gives_the_first_match_of_equal_rank() {
     let list = [
         disabled(receive(0)),
         send(0, Message::Nothing),
@@ -97,9 +97,9 @@ fn the_search_gives_the_first_match() {
         receive(0),
     ];
     // 0 is disabled, 1 sends too, 2 names another party; 3 is the first match.
-    assert_eq!(first_match(0, &send(1, Message::Nothing), &list), Some(3));
-    assert_eq!(first_match(0, &receive(1), &list), Some(1));
-    assert_eq!(first_match(0, &disabled(receive(1)), &list), None);
+    assert_eq!(best_match(0, &send(1, Message::Nothing), &list), Some(3));
+    assert_eq!(best_match(0, &receive(1), &list), Some(1));
+    assert_eq!(best_match(0, &disabled(receive(1)), &list), None);
 }
 
 #[test]
