@@ -56,6 +56,7 @@ fn guard_of(party: u8) -> Guard {
         enabled: true,
         partner,
         kind: 0,
+        rank: 0,
         action,
     }
 }

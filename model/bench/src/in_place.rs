@@ -47,6 +47,7 @@ fn guard_of(party: usize) -> Guard {
         enabled: true,
         partner,
         kind: 0,
+        rank: 0,
         action,
     }
 }

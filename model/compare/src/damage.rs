@@ -1,15 +1,13 @@
 //! Desks that no run of calls makes: in form but odd, out of form in one point,
 //! or wild.
 
-use crate::draw::{self, list, message};
+use crate::draw::{self, list, message, rank_of, BYTES, NAN_IN};
 use crate::library::Start;
+use crate::posted::{answer_some, commit_some, with_others};
 use crate::random::Random;
-use crate::rendezvous::{GUARDS, PROCESSES};
+use crate::rendezvous::PROCESSES;
 use crate::wire::BLANK;
-use model::{Action, Call, Desk, Guard, IndexedMessage, Party, Place, Ticket};
-
-/// One float in so many of a damaged desk is not a number.
-const NAN_IN: usize = 4;
+use model::{Call, Desk, Guard, IndexedMessage, Party, Place, Ticket};
 
 /// Each point by which a desk can be out of form, one for each clause of
 /// refusal 7.
@@ -50,8 +48,8 @@ pub const POINTS: [Point; 15] = [
     Point::Overslept,
 ];
 
-/// A desk in form with any nap, places, lists, signals, wake counts and tickets.
-/// Records that are no party's hold anything at all.
+/// A desk in form with any nap, places, lists, signals, wake counts and tickets, and
+/// often without ranks. Records that are no party's hold anything at all.
 pub fn odd_desk(random: &mut Random) -> Desk {
     let n = match random.below(4) {
         0 => 2 + random.below(31),
@@ -62,6 +60,9 @@ pub fn odd_desk(random: &mut Random) -> Desk {
     let mut parties: Vec<Party> = parties.collect();
     answer_some(random, &mut parties);
     commit_some(random, &mut parties);
+    if random.one_in(3) {
+        parties.iter_mut().for_each(forget_ranks);
+    }
     while parties.len() < PROCESSES {
         parties.push(match random.one_in(3) {
             true => any_party(random, nap),
@@ -95,7 +96,10 @@ fn odd_party(random: &mut Random, party: usize, desk: Start) -> Party {
         Some(indexed(random, guards.len()))
     };
     let posted = match random.one_in(4) {
-        true => with_other_kinds(random, &guards),
+        true => {
+            let byte = random.pick(&BYTES);
+            with_others(random, &guards, byte)
+        }
         false => list(random, party, n, NAN_IN),
     };
     Party {
@@ -111,18 +115,9 @@ fn odd_party(random: &mut Random, party: usize, desk: Start) -> Party {
     }
 }
 
-/// The same list but for kinds.
-fn with_other_kinds(random: &mut Random, list: &[Guard]) -> Vec<Guard> {
-    let mut list = list.to_vec();
-    for guard in &mut list {
-        guard.kind = match random.below(4) {
-            0 => guard.kind.wrapping_add(1),
-            1 => guard.kind ^ 0x80,
-            2 => random.byte(),
-            _ => guard.kind,
-        };
-    }
-    list
+fn forget_ranks(record: &mut Party) {
+    let guards = record.guards.iter_mut().chain(&mut record.posted);
+    guards.for_each(|guard| *rank_of(guard) = 0);
 }
 
 fn indexed(random: &mut Random, count: usize) -> IndexedMessage {
@@ -189,49 +184,6 @@ fn any_nap(random: &mut Random) -> u8 {
         0 => 0,
         1 => random.byte(),
         _ => draw::nap(random),
-    }
-}
-
-/// Lets some partners of parties at T accept, with a guard that matches, or does
-/// but for its kind, or with both.
-fn answer_some(random: &mut Random, parties: &mut [Party]) {
-    for party in 0..parties.len() {
-        let Place::Trying(own) = parties[party].place else {
-            continue;
-        };
-        let own = parties[party].guards[own];
-        let partner = &mut parties[own.partner];
-        let action = match own.sends() {
-            true => Action::Receive,
-            false => Action::Send(message(random, NAN_IN)),
-        };
-        for kind in [own.kind, own.kind.wrapping_add(1)] {
-            let count = partner.posted.len();
-            if count < GUARDS && random.one_in(3) {
-                let answer = Guard {
-                    enabled: true,
-                    partner: party,
-                    kind,
-                    action,
-                };
-                partner.posted.insert(random.below(count + 1), answer);
-                partner.wake_count = 0;
-            }
-        }
-    }
-}
-
-/// Puts some parties to C whose partner has posted something to keep.
-fn commit_some(random: &mut Random, parties: &mut [Party]) {
-    for party in 0..parties.len() {
-        let Place::Trying(own) = parties[party].place else {
-            continue;
-        };
-        let count = parties[parties[party].guards[own].partner].posted.len();
-        if count > 0 && random.one_in(2) {
-            let kept = random.below(count);
-            parties[party].place = Place::Committed { own, kept };
-        }
     }
 }
 
@@ -380,14 +332,18 @@ fn any_list(random: &mut Random) -> Vec<Guard> {
 pub fn changed_desk(random: &mut Random) -> Desk {
     let n = 2 + random.below(4);
     let nap = draw::nap(random);
+    let ranked = !random.one_in(3);
     let mut desk = Start { n, nap }.desk();
     for _ in 0..random.below(60) {
         let party = random.below(n);
-        let call = match random.below(16) {
+        let mut call = match random.below(16) {
             0..=3 => draw::offer(random, party, n),
             4 => Call::Withdraw { party },
             _ => Call::Step { party },
         };
+        if !ranked {
+            draw::forget_ranks(&mut call);
+        }
         // A refused call is as good as another here.
         let _ = call.on(&mut desk);
     }
@@ -408,6 +364,7 @@ fn change_one_value(random: &mut Random, desk: &mut Desk) {
 fn change_record(random: &mut Random, record: &mut Party, nap: u8) {
     let count = record.guards.len().max(1);
     let steps = steps_within(random, nap);
+    let byte = random.pick(&BYTES);
     match random.below(8) {
         0 => record.place = odd_place(random, count, steps),
         1 => record.wake_count ^= 1,
@@ -415,7 +372,7 @@ fn change_record(random: &mut Random, record: &mut Party, nap: u8) {
         3 => record.signal = None,
         4 => record.ticket = Ticket(random.below(5) as u32),
         5 => record.posted = record.guards.clone(),
-        6 => record.posted = with_other_kinds(random, &record.guards),
-        _ => record.guards = with_other_kinds(random, &record.guards),
+        6 => record.posted = with_others(random, &record.guards, byte),
+        _ => record.guards = with_others(random, &record.guards, byte),
     }
 }

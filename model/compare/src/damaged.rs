@@ -3,17 +3,23 @@
 
 use crate::damage::{self, POINTS};
 use crate::draw;
-use crate::library::{both, line, Library};
+use crate::library::{both, line, Library, Start};
 use crate::part::{Budget, Finding, Verdict};
+use crate::plans::guard;
 use crate::random::Random;
 use crate::reduce_desk::reduce;
+use crate::rendezvous::{GUARD_BYTES, GUARD_RANK, HEAD_BYTES, RECORD_BYTES};
+use crate::rendezvous::{RECORD_KEPT, RECORD_OWN, RECORD_PLACE, RECORD_POSTED};
 use crate::tally::Tally;
 use crate::wire::{decode, encode, normal, Table};
-use model::{Call, Desk};
+use model::{Call, Desk, Place};
 
 /// Tables for each seed, and calls on each of them.
 const TABLES: usize = 40;
 const CALLS: usize = 8;
+
+/// The byte of a place that is C.
+const COMMITTED: u8 = 4;
 
 pub fn run(library: &dyn Library, budget: Budget) -> Verdict {
     let mut tally = Tally::new();
@@ -33,6 +39,7 @@ pub fn run(library: &dyn Library, budget: Budget) -> Verdict {
             tables += 1;
         }
     }
+    every_two_ranks(library).map_err(|text| Finding::new(budget.seed, text))?;
     print!("{}", tally.listed());
     match tally.missed().as_slice() {
         [] => Ok(format!(
@@ -59,6 +66,32 @@ fn creations(library: &dyn Library, tally: &mut Tally) -> Result<(), String> {
         }
         if let Err(number) = given {
             tally.refused(number);
+        }
+    }
+    Ok(())
+}
+
+/// A search among two guards that match, with every two ranks and some rank of the
+/// own guard: the second is kept where it ranks higher, else the first.
+fn every_two_ranks(library: &dyn Library) -> Result<(), String> {
+    let mut desk = Start { n: 2, nap: 1 }.desk();
+    desk.parties[0].guards = vec![guard(1, true, true)];
+    desk.parties[0].place = Place::Trying(0);
+    desk.parties[1].posted = vec![guard(0, false, true); 2];
+    desk.parties[1].wake_count = 0;
+    let mut table = encode(&desk);
+    let rank_at = |list: usize, slot: usize| HEAD_BYTES + list + slot * GUARD_BYTES + GUARD_RANK;
+    let call = Call::Step { party: 0 };
+    for (one, other) in (0..=255).flat_map(|one| (0..=255).map(move |other| (one, other))) {
+        let bytes = table.bytes_mut();
+        bytes[rank_at(RECORD_OWN, 0)] = one ^ other;
+        bytes[rank_at(RECORD_BYTES + RECORD_POSTED, 0)] = one;
+        bytes[rank_at(RECORD_BYTES + RECORD_POSTED, 1)] = other;
+        let reply = library.call(&table, &call);
+        let place = &reply.table.bytes()[HEAD_BYTES + RECORD_PLACE..];
+        if place[..=RECORD_KEPT] != [COMMITTED, 0, u8::from(other > one)] {
+            let text = format!("of ranks {one} and {other} the other guard is kept, or none");
+            return Err(told(library, &table, &call, &text));
         }
     }
     Ok(())
@@ -176,7 +209,8 @@ fn show(desk: &Desk) -> String {
 #[cfg(test)]
 mod tests {
     use super::*;
-    use crate::erring::{Erring, KindBlind, OtherNap, ERRORS, NAP_ERRORS};
+    use crate::erring::{Erring, OtherNap, ScansByRank, ERRORS, NAP_ERRORS};
+    use crate::erring::{KIND_BLIND, RANK_ERRORS};
     use std::time::Duration;
 
     fn found(library: &dyn Library) -> String {
@@ -204,7 +238,17 @@ mod tests {
 
     #[test]
     fn a_search_that_does_not_look_at_kinds_is_found_and_told_by_one_step() {
-        let text = found(&KindBlind);
+        let text = found(&KIND_BLIND);
         assert!(text.contains("\ncall: s "), "{text}");
+    }
+
+    #[test]
+    fn errors_in_ranks_are_found_and_told_by_one_step() {
+        for error in &RANK_ERRORS {
+            let text = found(error);
+            assert!(text.contains("\ncall: s "), "{text}");
+        }
+        let text = found(&ScansByRank);
+        assert!(text.contains("Entering"), "{text}");
     }
 }

@@ -33,11 +33,30 @@ const EDGES: [u32; 9] = [
 /// Kinds at the edges of a byte and of its top bit.
 const KINDS: [u8; 6] = [0, 1, 127, 128, 254, 255];
 
+/// Ranks at the edges of a byte and of its top bit.
+const HIGH_RANKS: [u8; 4] = [127, 128, 254, 255];
+
 /// The longest nap.
 pub const LONGEST_NAP: u8 = 255;
 
 /// No float of a message is a NaN.
 const NEVER: usize = usize::MAX;
+
+/// One float in so many of a damaged desk is not a number.
+pub const NAN_IN: usize = 4;
+
+/// A byte of a guard that any value is good for.
+pub type ByteOf = fn(&mut Guard) -> &mut u8;
+
+pub const BYTES: [ByteOf; 2] = [kind_of, rank_of];
+
+pub fn kind_of(guard: &mut Guard) -> &mut u8 {
+    &mut guard.kind
+}
+
+pub fn rank_of(guard: &mut Guard) -> &mut u8 {
+    &mut guard.rank
+}
 
 /// An f32 that is a number.
 fn number(random: &mut Random) -> f32 {
@@ -102,6 +121,24 @@ fn kind(random: &mut Random, party: usize, partner: usize, n: usize) -> u8 {
     }
 }
 
+/// A rank, mostly 0 or 1, so that many guards rank the same; now and then at an edge,
+/// or any byte.
+pub fn rank(random: &mut Random) -> u8 {
+    match random.below(16) {
+        0 => random.byte(),
+        1..=3 => random.pick(&HIGH_RANKS),
+        4..=8 => 1,
+        _ => 0,
+    }
+}
+
+/// Leaves a call without ranks.
+pub fn forget_ranks(call: &mut Call) {
+    if let Call::Offer { guards, .. } = call {
+        guards.iter_mut().for_each(|guard| guard.rank = 0);
+    }
+}
+
 /// A nap length: often 1, mostly short, and now and then the longest or any.
 pub fn nap(random: &mut Random) -> u8 {
     match random.below(16) {
@@ -119,6 +156,7 @@ fn guard(random: &mut Random, party: usize, n: usize, nan_in: usize) -> Guard {
         enabled: !random.one_in(5),
         partner,
         kind: kind(random, party, partner, n),
+        rank: rank(random),
         action: match random.one_in(2) {
             true => Action::Receive,
             false => Action::Send(message(random, nan_in)),
@@ -137,20 +175,26 @@ pub fn list(random: &mut Random, party: usize, n: usize, nan_in: usize) -> Vec<G
         .collect()
 }
 
-/// A good list in which a neighbour is always met in both directions: a desk
-/// with such lists never runs dry.
+/// A good list in which a neighbour is always met in both directions, often by two
+/// guards, of which the ranks choose one: a desk with such lists never runs dry.
 pub fn sociable_list(random: &mut Random, party: usize, n: usize) -> Vec<Guard> {
     let mut guards = list(random, party, n, NEVER);
-    guards.truncate(6);
+    guards.truncate(4);
     let partner = if party ^ 1 < n { party ^ 1 } else { 0 };
-    for action in [Action::Receive, Action::Send(message(random, NEVER))] {
-        let guard = Guard {
-            enabled: true,
-            partner,
-            kind: common_kind(party, partner, n),
-            action,
-        };
-        guards.insert(random.below(guards.len() + 1), guard);
+    for sends in [false, true] {
+        for _ in 0..1 + random.below(2) {
+            let guard = Guard {
+                enabled: true,
+                partner,
+                kind: common_kind(party, partner, n),
+                rank: rank(random),
+                action: match sends {
+                    true => Action::Send(message(random, NEVER)),
+                    false => Action::Receive,
+                },
+            };
+            guards.insert(random.below(guards.len() + 1), guard);
+        }
     }
     guards
 }
@@ -227,5 +271,19 @@ mod tests {
         }
         assert!(apart[0] > 2000);
         assert!([1, 128, 255].iter().all(|&near| apart[near] > 200));
+    }
+
+    #[test]
+    fn ranks_are_often_equal_and_lie_on_both_sides_of_every_edge() {
+        let mut random = Random::new(2);
+        let mut counts = [0; 256];
+        for _ in 0..4000 {
+            counts[usize::from(rank(&mut random))] += 1;
+        }
+        assert!(counts[0] > 1000 && counts[1] > 1000);
+        assert!(HIGH_RANKS
+            .iter()
+            .all(|&high| counts[usize::from(high)] > 100));
+        assert!(counts[2..127].iter().sum::<u32>() > 20);
     }
 }

@@ -1,6 +1,6 @@
-//! The comparison's own test whether guards match, and what kinds alone decide.
-//! The model and its book find guards by their own test; a check by the same test
-//! could not fail.
+//! The comparison's own test whether guards match, which of them rule 7 keeps, and
+//! what kinds alone decide. The model and its book find guards by their own search; a
+//! check by the same one could not fail.
 
 use model::{Call, Desk, Guard, OpenOffer, Place};
 
@@ -17,6 +17,22 @@ fn nearly_fit(p: usize, own: &Guard, q: usize, other: &Guard) -> bool {
 /// Two guards match.
 pub fn fit(p: usize, own: &Guard, q: usize, other: &Guard) -> bool {
     own.kind == other.kind && nearly_fit(p, own, q, other)
+}
+
+/// The guard of a list that rule 7 keeps for guard `own` of process `p`.
+pub fn kept(p: usize, own: &Guard, list: &[Guard]) -> Option<usize> {
+    leader(list, |other| fit(p, own, own.partner, other))
+}
+
+/// Of the guards that pass a test, the one that no other goes before: none ranks
+/// higher, and none that ranks the same has a smaller index.
+fn leader(list: &[Guard], passes: impl Fn(&Guard) -> bool) -> Option<usize> {
+    let passing = || (0..list.len()).filter(|&at| passes(&list[at]));
+    let goes_before = |one: usize, other: usize| {
+        let (rank, other_rank) = (list[one].rank, list[other].rank);
+        rank > other_rank || (rank == other_rank && one < other)
+    };
+    passing().find(|&at| !passing().any(|other| goes_before(other, at)))
 }
 
 /// No two of these offers match.
@@ -40,29 +56,31 @@ fn any_two(offers: &[OpenOffer], test: fn(usize, &Guard, usize, &Guard) -> bool)
 /// What kinds alone decide in a search of rule 7.
 #[derive(Clone, Copy, Debug, PartialEq, Eq)]
 pub enum Search {
-    /// It keeps a guard behind one that matches but for its kind.
+    /// It keeps another guard than one that matches but for its kind, which it would
+    /// keep if all kinds were equal.
     PassesOver,
     /// It finds none, but one that matches but for its kind.
     FindsNone,
 }
 
-/// What kinds decide in the search that a step of `party` makes, if it makes one.
-pub fn search(desk: &Desk, party: usize) -> Option<Search> {
+/// Which own guard a step of `party` searches a match for, and in which list; none if
+/// it makes no search.
+pub fn searched(desk: &Desk, party: usize) -> Option<(usize, &[Guard])> {
     let record = desk.parties.get(party)?;
-    let Place::Trying(own) = record.place else {
+    let Place::Trying(at) = record.place else {
         return None;
     };
-    let own = record.guards.get(own)?;
-    let partner = desk.parties.get(own.partner)?;
-    if partner.wake_count != 0 {
-        return None;
-    }
-    let mut near = partner.posted.iter();
-    let near = near.position(|other| nearly_fit(party, own, own.partner, other))?;
-    let mut rest = partner.posted[near..].iter();
-    match rest.position(|other| fit(party, own, own.partner, other)) {
-        Some(0) => None,
-        Some(_) => Some(Search::PassesOver),
+    let partner = desk.parties.get(record.guards.get(at)?.partner)?;
+    (partner.wake_count == 0).then_some((at, &partner.posted))
+}
+
+/// What kinds decide in the search that a step of `party` makes, if it makes one.
+pub fn search(desk: &Desk, party: usize) -> Option<Search> {
+    let (at, posted) = searched(desk, party)?;
+    let own = &desk.parties[party].guards[at];
+    let near = leader(posted, |other| nearly_fit(party, own, own.partner, other))?;
+    match kept(party, own, posted) {
+        Some(kept) => (kept != near).then_some(Search::PassesOver),
         None => Some(Search::FindsNone),
     }
 }
@@ -118,7 +136,7 @@ mod tests {
 
     /// Process 0 tries with a sending guard of kind 7; process 1 has posted
     /// receiving guards of these kinds.
-    fn searched(kinds: &[u8], wake_count: u8) -> Option<Search> {
+    fn by_kinds(kinds: &[u8], wake_count: u8) -> Option<Search> {
         let mut desk = Start { n: 2, nap: 1 }.desk();
         let of_kind = |guard, kind| Guard { kind, ..guard };
         desk.parties[0].guards = vec![of_kind(guard(1, true, true), 7)];
@@ -133,11 +151,11 @@ mod tests {
 
     #[test]
     fn searches_are_told_apart() {
-        assert_eq!(searched(&[8, 7], 0), Some(Search::PassesOver));
-        assert_eq!(searched(&[8, 6], 0), Some(Search::FindsNone));
-        assert_eq!(searched(&[7, 8], 0), None);
-        assert_eq!(searched(&[], 0), None);
-        assert_eq!(searched(&[8, 7], 1), None);
+        assert_eq!(by_kinds(&[8, 7], 0), Some(Search::PassesOver));
+        assert_eq!(by_kinds(&[8, 6], 0), Some(Search::FindsNone));
+        assert_eq!(by_kinds(&[7, 8], 0), None);
+        assert_eq!(by_kinds(&[], 0), None);
+        assert_eq!(by_kinds(&[8, 7], 1), None);
     }
 
     #[test]

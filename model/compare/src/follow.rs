@@ -1,11 +1,12 @@
 //! One run from a fresh table: the library, the model and the plain book side
 //! by side, with every clause of demand 3 checked after every call.
 
-use crate::fit::{fit, none_match};
+use crate::draw::BYTES;
+use crate::fit::{fit, kept, none_match};
 use crate::library::{both, line, Library, Reply, Start};
-use crate::reduce::{smallest, with_plain_kinds};
+use crate::reduce::{smallest, with_zeros};
 use crate::wire::{encode, Table};
-use model::{Answer, Book, Call, Desk, Entry, Given, Meeting, OpenOffer, Ticket};
+use model::{Answer, Book, Call, Desk, Entry, Given, Guard, Meeting, OpenOffer, Ticket};
 use model::{Moment, Told, Withdrawal};
 use std::collections::BTreeSet;
 
@@ -111,22 +112,27 @@ impl Follow {
         }
     }
 
-    /// A rendezvous joins two offers open until now, on matching guards, and
-    /// neither ticket stands in an earlier moment.
+    /// A rendezvous joins two offers open until now, on matching guards, of which the
+    /// partner's goes before all others that match; and neither ticket stands in an
+    /// earlier moment.
     fn joined(&mut self, meeting: &Meeting, before: &[OpenOffer]) -> Result<(), String> {
-        let find = |party, ticket| {
-            before
-                .iter()
-                .find(|offer| offer.party == party && offer.ticket == ticket)
+        let list = |party, ticket| {
+            let mut offers = before.iter();
+            let offer = offers.find(|offer| offer.party == party && offer.ticket == ticket);
+            offer.map_or(&[][..], |offer| &offer.guards)
         };
-        let own = find(meeting.p, meeting.p_ticket).and_then(|offer| offer.guards.get(meeting.i));
-        let other = find(meeting.q, meeting.q_ticket).and_then(|offer| offer.guards.get(meeting.j));
-        let (Some(own), Some(other)) = (own, other) else {
+        let theirs = list(meeting.q, meeting.q_ticket);
+        let own = list(meeting.p, meeting.p_ticket).get(meeting.i);
+        let (Some(own), Some(other)) = (own, theirs.get(meeting.j)) else {
             return Err(format!("{meeting:?} joins offers that are not open"));
         };
         expect(
             fit(meeting.p, own, meeting.q, other),
             "a rendezvous joins guards that do not match",
+        )?;
+        expect(
+            kept(meeting.p, own, theirs) == Some(meeting.j),
+            "a rendezvous passes over a guard of greater rank, or the first among equals",
         )?;
         let sender = if own.sends() { own } else { other };
         expect(
@@ -220,7 +226,12 @@ pub fn told(library: &dyn Library, start: Start, calls: &[Call], text: &str) -> 
     // Fewer calls bring the same about where a nap is shorter.
     let start = with_short_nap(start, |start| fails(start, &short));
     let short = smallest(&short, |some| fails(start, some));
-    let short = with_plain_kinds(short, |calls| kinds(calls), |some| fails(start, some));
+    let short = with_zeros(
+        short,
+        &BYTES,
+        |calls| guards(calls),
+        |some| fails(start, some),
+    );
     let again = replay(library, start, &short).err();
     let mut script = start.line() + "\n";
     for call in &short {
@@ -235,12 +246,12 @@ pub fn told(library: &dyn Library, start: Start, calls: &[Call], text: &str) -> 
     )
 }
 
-fn kinds(calls: &mut [Call]) -> Vec<&mut u8> {
+fn guards(calls: &mut [Call]) -> Vec<&mut Guard> {
     let guards = calls.iter_mut().flat_map(|call| match call {
         Call::Offer { guards, .. } => guards.iter_mut(),
         _ => [].iter_mut(),
     });
-    guards.map(|guard| &mut guard.kind).collect()
+    guards.collect()
 }
 
 /// The same with the shortest of some naps with which it still fails.

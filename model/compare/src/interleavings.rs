@@ -7,8 +7,9 @@ use crate::follow::{told, Follow};
 use crate::library::{Library, Start};
 use crate::naps::{Naps, SHOWN_BY_TWO};
 use crate::part::{Budget, Finding, Verdict};
-use crate::plans::{has_kinds, plans, Plan};
-use crate::plans::{PAIRS, PAIRS_BY_KIND, PAIRS_WITH_NAPS, TRIPLES};
+use crate::plans::{has_kinds, has_ranks, plans, Plan};
+use crate::plans::{PAIRS, PAIRS_BY_KIND, PAIRS_BY_RANK, PAIRS_WITH_NAPS, TRIPLES};
+use crate::ranks::{self, Ranks};
 use crate::wire::put_message;
 use model::{Call, Given, Withdrawal};
 use std::collections::HashSet;
@@ -19,6 +20,7 @@ struct Sums {
     /// The plans that were explored whole, by their sort.
     pairs: u64,
     pairs_by_kind: u64,
+    pairs_by_rank: u64,
     pairs_with_naps: u64,
     triples: u64,
     longer: u64,
@@ -29,6 +31,7 @@ struct Sums {
     late: u64,
     rests: u64,
     by_kinds: ByKinds,
+    ranks: Ranks,
     naps: Naps,
 }
 
@@ -51,11 +54,13 @@ impl Sums {
     fn told(&self) -> String {
         format!(
             "interleavings: every order of {} of {PAIRS} plans for two processes with a withdrawal each, \
-             {} of {PAIRS_BY_KIND} with two kinds and no withdrawal, {} of {PAIRS_WITH_NAPS} with naps of two steps, \
+             {} of {PAIRS_BY_KIND} with two kinds and no withdrawal, {} of {PAIRS_BY_RANK} with two ranks, \
+             {} of {PAIRS_WITH_NAPS} with naps of two steps, \
              {} of {TRIPLES} for three and {} with second offers; \
-             {} states, {} calls, {} commits, {} withdrawals, {} too late, {} states at rest; {}; {}",
+             {} states, {} calls, {} commits, {} withdrawals, {} too late, {} states at rest; {}; {}; {}",
             self.pairs,
             self.pairs_by_kind,
+            self.pairs_by_rank,
             self.pairs_with_naps,
             self.triples,
             self.longer,
@@ -66,30 +71,33 @@ impl Sums {
             self.late,
             self.rests,
             self.by_kinds.told(),
+            self.ranks.told(),
             self.naps.told()
         )
     }
 
-    /// What kinds never decided and what was never seen of naps, though all plans
-    /// that bring it were explored.
+    /// What kinds never decided and what was never seen of ranks and naps, though all
+    /// plans that bring it were explored.
     fn missed(&self) -> Option<String> {
-        let by_kinds = match self.pairs_by_kind == PAIRS_BY_KIND as u64 {
-            true => self.by_kinds.missed().map(str::to_string),
-            false => None,
-        };
-        match self.pairs_with_naps == PAIRS_WITH_NAPS as u64 {
-            true => by_kinds.or_else(|| self.naps.missed(&SHOWN_BY_TWO)),
-            false => by_kinds,
-        }
+        let explored = |plans: u64, all: usize| (plans == all as u64).then_some(());
+        let by_kinds = explored(self.pairs_by_kind, PAIRS_BY_KIND)
+            .and_then(|()| self.by_kinds.missed().map(str::to_string));
+        let by_ranks = explored(self.pairs_by_rank, PAIRS_BY_RANK)
+            .and_then(|()| self.ranks.missed(&ranks::SHOWN_BY_TWO));
+        let of_naps = explored(self.pairs_with_naps, PAIRS_WITH_NAPS)
+            .and_then(|()| self.naps.missed(&SHOWN_BY_TWO));
+        by_kinds.or(by_ranks).or(of_naps)
     }
 
     fn plans(&self) -> u64 {
-        self.pairs + self.pairs_by_kind + self.pairs_with_naps + self.triples + self.longer
+        let two = self.pairs + self.pairs_by_kind + self.pairs_by_rank + self.pairs_with_naps;
+        two + self.triples + self.longer
     }
 
     fn note(&mut self, plan: &Plan) {
         let once = plan.roles.iter().all(|role| role.lists.len() == 1);
         match (once, plan.roles.len()) {
+            (true, 2) if has_ranks(plan) => self.pairs_by_rank += 1,
             (true, 2) if has_kinds(plan) => self.pairs_by_kind += 1,
             (true, 2) if plan.nap > 1 => self.pairs_with_naps += 1,
             (true, 2) => self.pairs += 1,
@@ -182,8 +190,10 @@ fn edge(
         path: state.path,
     };
     sums.by_kinds.note(&state.follow.desk, call);
+    sums.ranks.note(&state.follow.desk, call);
     sums.naps.note(&state.follow.desk, call);
     let answer = next.follow.call(library, call)?;
+    sums.ranks.note_answer(&next.follow.desk, call, &answer);
     sums.calls += 1;
     match (answer, call) {
         (Ok(Given::Ticket(_)), Call::Offer { party, .. }) => next.offers_made[*party] += 1,
@@ -234,9 +244,9 @@ fn key(state: &State, n: usize) -> Vec<u8> {
 #[cfg(test)]
 mod tests {
     use super::*;
-    use crate::erring::{Erring, OtherNap, ERRORS, NAP_ERRORS};
+    use crate::erring::{Erring, OtherNap, ScansByRank, ERRORS, NAP_ERRORS, RANK_ERRORS};
     use crate::library::Modelled;
-    use crate::plans::{guard, Role};
+    use crate::plans::{every_pair_by_rank, guard, Role};
     use model::Guard;
     use std::time::Duration;
 
@@ -300,6 +310,32 @@ mod tests {
         assert_eq!(sums.naps.missed(&SHOWN_BY_TWO), None);
         let states = |nap| explored(&with_naps(nap)).states;
         assert!(states(1) < states(2) && states(2) < states(3));
+    }
+
+    /// Finds what a library does wrong where ranks 0 and 1 decide: in the plans where
+    /// process 0 has one guard, which receives.
+    fn found_by_rank(library: &dyn Library, sums: &mut Sums) -> Option<String> {
+        let end = Instant::now() + Duration::from_secs(600);
+        let mut plans = every_pair_by_rank().into_iter().take(PAIRS_BY_RANK / 4);
+        plans.find_map(|plan| explore(library, &plan, end, sums).err())
+    }
+
+    #[test]
+    fn ranks_decide_in_every_way_for_two() {
+        let mut sums = Sums::default();
+        assert_eq!(found_by_rank(&Modelled, &mut sums), None);
+        assert_eq!(sums.pairs_by_rank, PAIRS_BY_RANK as u64 / 4);
+        assert_eq!(sums.ranks.missed(&ranks::SHOWN_BY_TWO), None);
+    }
+
+    #[test]
+    fn errors_in_ranks_are_found() {
+        // With ranks 0 and 1 the top bit shows nowhere: the last two do not err.
+        let errors = RANK_ERRORS[..5].iter().map(|error| error as &dyn Library);
+        for library in errors.chain([&ScansByRank as &dyn Library]) {
+            let found = found_by_rank(library, &mut Sums::default());
+            assert!(found.is_some_and(|text| text.contains("\ns ")));
+        }
     }
 
     #[test]

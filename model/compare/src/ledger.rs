@@ -1,8 +1,9 @@
 //! Answers alone, without table, model or book: each offer ends once, collected
 //! or withdrawn, or is open at the end; what was collected was sent, to the one
-//! who collected it, at a guard of the same kind, and nothing is lost or given
-//! twice.
+//! who collected it, at a guard of the same kind, and of those that match at the one
+//! of greatest rank; and nothing is lost or given twice.
 
+use crate::fit::kept;
 use crate::wire::put_message;
 use model::{Call, Given, Guard, Message, Outcome, Withdrawal};
 use std::collections::{BTreeMap, BTreeSet};
@@ -21,6 +22,9 @@ struct Ledger {
     open: BTreeMap<usize, Vec<Guard>>,
     withdrawn: usize,
     late: usize,
+    /// For each process that another committed to and that has not collected yet: who
+    /// did, and with which guard.
+    committed: BTreeMap<usize, (usize, Guard)>,
     /// Who sends a message to whom, and of which kind.
     sent: BTreeMap<Bytes, (usize, usize, u8)>,
     /// Messages that a sender was told to be gone, and that someone received.
@@ -46,6 +50,9 @@ pub fn check(history: &History) -> Result<Ends, String> {
     for (call, answer) in history {
         match (call, answer) {
             (Call::Offer { party, guards }, Ok(_)) => ledger.offered(*party, guards)?,
+            (Call::Step { party }, Ok(Given::Place(Some(place)))) if place.letter == 'C' => {
+                ledger.commits(*party, place.index)?
+            }
             (Call::Collect { party }, Ok(Given::Outcome(outcome))) => {
                 ledger.collected(*party, outcome)?
             }
@@ -74,6 +81,16 @@ impl Ledger {
         }
     }
 
+    fn commits(&mut self, party: usize, index: Option<usize>) -> Result<(), String> {
+        let list = self.open.get(&party);
+        let guard = list.and_then(|list| list.get(index?).copied());
+        let guard = guard.ok_or(format!("{party} commits at a guard that it did not offer"))?;
+        match self.committed.insert(guard.partner, (party, guard)) {
+            None => Ok(()),
+            Some(_) => Err(format!("{party} commits to one that is committed to")),
+        }
+    }
+
     /// After this the process has nothing to collect by, and what another
     /// received of the offer's messages is never gone.
     fn withdrew(&mut self, party: usize) -> Result<(), String> {
@@ -94,9 +111,16 @@ impl Ledger {
     }
 
     fn collected(&mut self, party: usize, outcome: &Outcome) -> Result<(), String> {
-        let list = self.open.remove(&party);
-        let guard = list.and_then(|list| list.get(outcome.index).copied());
+        let list = self.open.remove(&party).unwrap_or_default();
+        let guard = list.get(outcome.index);
         let guard = guard.ok_or(format!("{party} collects at a guard that it did not offer"))?;
+        if let Some((other, own)) = self.committed.remove(&party) {
+            if kept(other, &own, &list) != Some(outcome.index) {
+                return Err(format!(
+                    "{party} collects {outcome:?}, not at the best match"
+                ));
+            }
+        }
         if guard.partner != outcome.partner || !guard.enabled {
             return Err(format!("{party} collects {outcome:?} at {guard:?}"));
         }
@@ -132,13 +156,14 @@ fn bytes(message: Message) -> Bytes {
 #[cfg(test)]
 mod tests {
     use super::*;
-    use model::{Action, Ticket};
+    use model::{Action, Place, Ticket};
 
     fn offer(party: usize, partner: usize, action: Action) -> (Call, Result<Given, u8>) {
         let guards = vec![Guard {
             enabled: true,
             partner,
             kind: 0,
+            rank: 0,
             action,
         }];
         (Call::Offer { party, guards }, Ok(Given::Ticket(Ticket(0))))
@@ -202,6 +227,35 @@ mod tests {
             panic!("the receiver's offer comes second");
         };
         guards[0].kind = 255;
+        assert!(check(&history).is_err());
+    }
+
+    /// Process 1 offers two guards of these ranks and meets at the first.
+    fn met_at_the_first(ranks: [u8; 2]) -> History {
+        let mut history = handed_over();
+        let (Call::Offer { guards, .. }, _) = &mut history[1] else {
+            panic!("the receiver's offer comes second");
+        };
+        let receiving = guards[0];
+        *guards = ranks.map(|rank| Guard { rank, ..receiving }).to_vec();
+        let place = Place::Committed { own: 0, kept: 0 };
+        let given = Given::Place(Some(place.answer()));
+        history.insert(2, (Call::Step { party: 0 }, Ok(given)));
+        history
+    }
+
+    #[test]
+    fn a_rendezvous_at_another_than_the_best_match_is_found() {
+        for (ranks, good) in [([0, 1], false), ([1, 0], true), ([1, 1], true)] {
+            assert_eq!(check(&met_at_the_first(ranks)).is_ok(), good);
+        }
+    }
+
+    #[test]
+    fn a_second_commit_to_one_offer_is_found() {
+        let mut history = met_at_the_first([0, 0]);
+        let commit = history[2].clone();
+        history.insert(2, commit);
         assert!(check(&history).is_err());
     }
 

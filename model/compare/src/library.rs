@@ -134,7 +134,7 @@ fn same(given: &Table, expected: &Table) -> Result<(), String> {
     }
 }
 
-/// A call as a script writes it, with kind 0 left out.
+/// A call as a script writes it, with kind 0 and rank 0 left out.
 pub fn line(call: &Call) -> String {
     line_with(call, |guard| parts(guard).concat())
 }
@@ -157,8 +157,8 @@ pub fn line_with(call: &Call, mut text: impl FnMut(&Guard) -> String) -> String 
 }
 
 /// What a guard's text is made of: its partner, behind `-` if it is disabled; what
-/// it does; and its kind, which is empty if it is 0.
-pub fn parts(guard: &Guard) -> [String; 3] {
+/// it does; its kind and its rank, each of which is empty if it is 0.
+pub fn parts(guard: &Guard) -> [String; 4] {
     let sign = if guard.enabled { "" } else { "-" };
     let action = match guard.action {
         Action::Receive => "?".to_string(),
@@ -168,5 +168,9 @@ pub fn parts(guard: &Guard) -> [String; 3] {
         0 => String::new(),
         kind => format!(":{kind}"),
     };
-    [format!("{sign}{}", guard.partner), action, kind]
+    let rank = match guard.rank {
+        0 => String::new(),
+        rank => format!("^{rank}"),
+    };
+    [format!("{sign}{}", guard.partner), action, kind, rank]
 }

@@ -6,6 +6,7 @@
 //! and the exit status is 0 only if none failed.
 
 mod arguments;
+mod crooked;
 mod damage;
 mod damaged;
 mod draw;
@@ -23,9 +24,11 @@ mod naps;
 mod pace;
 mod part;
 mod plans;
+mod posted;
 mod program;
 mod proved;
 mod random;
+mod ranks;
 mod reached;
 mod reduce;
 mod reduce_desk;
@@ -33,6 +36,7 @@ mod reduce_desk;
 mod rendezvous;
 mod repository;
 mod scripts;
+mod seen;
 mod sorts;
 mod spoil;
 mod stress;

@@ -1,7 +1,7 @@
 //! What a call on a table in form shows of naps, and how often that was seen.
 
+use crate::seen::Seen;
 use model::{Call, Desk, Party, Place};
-use std::collections::BTreeMap;
 
 pub const WITHIN: &str = "a step within a nap";
 pub const LAST_OF_ONE: &str = "the end of a nap of one step";
@@ -60,24 +60,21 @@ fn is_within(record: &Party) -> bool {
 
 /// How often each of these was seen.
 #[derive(Default)]
-pub struct Naps(BTreeMap<&'static str, u64>);
+pub struct Naps(Seen);
 
 impl Naps {
     /// Notes a call on a desk in form as it is before.
     pub fn note(&mut self, desk: &Desk, call: &Call) {
-        if let Some(name) = shown(desk, call) {
-            *self.0.entry(name).or_insert(0) += 1;
-        }
+        self.0.note(shown(desk, call));
     }
 
     /// The first of these that was never seen.
     pub fn missed(&self, wanted: &[&'static str]) -> Option<String> {
-        let missed = wanted.iter().find(|name| !self.0.contains_key(*name));
-        missed.map(|name| format!("never seen: {name}"))
+        self.0.missed(wanted)
     }
 
     pub fn told(&self) -> String {
-        let count = |name| self.0.get(name).copied().unwrap_or(0);
+        let count = |name| self.0.count(name);
         format!(
             "{} steps within naps, {} naps of one step, {} of 2 to 254 and {} of 255 slept through, {} ended by a withdrawal",
             count(WITHIN),

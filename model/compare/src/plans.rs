@@ -2,12 +2,14 @@
 //! and how long a nap is: short lists, each sending guard with a message of its own,
 //! and short naps.
 
+use crate::draw;
 use crate::random::Random;
 use model::{Action, Guard, Message};
 
 /// How many plans of one offer each there are.
 pub const PAIRS: usize = 14 * 14;
 pub const PAIRS_BY_KIND: usize = 10 * 20 - 6 * 6;
+pub const PAIRS_BY_RANK: usize = 2 * 2 * (7 + 6);
 pub const PAIRS_WITH_NAPS: usize = 6 * 6;
 pub const TRIPLES: usize = 20 * 20 * 20;
 
@@ -26,23 +28,33 @@ pub struct Plan {
     pub roles: Vec<Role>,
 }
 
-/// First plans for two processes with naps of two steps. Then, with naps of one
-/// step, every plan for two of one offer each, of two kinds, and of kind 0, where
-/// both may withdraw, and of one guard that each offers twice. Then every plan of
-/// one offer each for three, shuffled, some of whom may withdraw, with drawn kinds
-/// and naps, in turn with plans of further offers, which have no end.
+/// First plans for two processes with naps of two steps. Then, with naps of one step,
+/// those of one guard and two where ranks decide, every plan for two of one offer each,
+/// of two kinds, and of kind 0, where both may withdraw, and of one guard that each
+/// offers twice. Then every plan of one offer each for three, shuffled, some of whom
+/// may withdraw, with drawn kinds, ranks and naps, in turn with plans of further
+/// offers, which have no end.
 pub fn plans(seed: u64) -> impl Iterator<Item = Plan> {
     let mut random = Random::new(seed);
-    let two = [every_pair_by_kind(), every_pair(), every_pair_twice()].concat();
-    let two = every_pair_with_naps().into_iter().chain(two);
+    let two = [
+        every_pair_with_naps(),
+        every_pair_by_rank(),
+        every_pair_by_kind(),
+    ]
+    .concat();
+    let two = two
+        .into_iter()
+        .chain(every_pair())
+        .chain(every_pair_twice());
     let two = two.chain(every_pair_twice_by_kind());
     let mut three = every_triple();
     random.shuffle(&mut three);
     for plan in &mut three {
         plan.nap = draw_nap(&mut random);
+        let ranked = random.one_in(2);
         for role in &mut plan.roles {
             role.withdraws = random.one_in(2);
-            draw_kinds(&mut random, &mut role.lists[0]);
+            draw_bytes(&mut random, &mut role.lists[0], ranked);
         }
     }
     let longer = std::iter::from_fn(move || Some(longer_plan(&mut random)));
@@ -129,6 +141,59 @@ pub fn has_kinds(plan: &Plan) -> bool {
     guards.any(|guard| guard.kind != 0)
 }
 
+/// Whether a guard of the plan has another rank than 0.
+pub fn has_ranks(plan: &Plan) -> bool {
+    let mut guards = plan.roles.iter().flat_map(|role| role.lists.concat());
+    guards.any(|guard| guard.rank != 0)
+}
+
+/// With one guard that one process offers and two that the other does, in which rank
+/// decides or must not: both of its guards match, and the ranks are 0 and 1 in every
+/// way but 0 alone; or one of them matches and another of rank 1 does but for its kind,
+/// for being disabled or for what it does, behind it or before it.
+pub fn every_pair_by_rank() -> Vec<Plan> {
+    let mut plans = Vec::new();
+    for (one, sends) in [(0, false), (0, true), (1, false), (1, true)] {
+        let (own, answer) = (guard(1 - one, sends, true), guard(one, !sends, true));
+        for ranks in 1..8 {
+            let of_rank = |guard, bit: u8| Guard {
+                rank: ranks >> bit & 1,
+                ..guard
+            };
+            let two = vec![of_rank(answer, 0), of_rank(answer, 1)];
+            plans.push(one_and_two(one, of_rank(own, 2), two));
+        }
+        for nearly in nearly_answers(answer) {
+            plans.push(one_and_two(one, own, vec![answer, nearly]));
+            plans.push(one_and_two(one, own, vec![nearly, answer]));
+        }
+    }
+    plans
+}
+
+/// The guard with rank 1 and with something that keeps it from matching.
+fn nearly_answers(answer: Guard) -> [Guard; 3] {
+    let answer = Guard { rank: 1, ..answer };
+    [
+        Guard { kind: 1, ..answer },
+        Guard {
+            enabled: false,
+            ..answer
+        },
+        Guard {
+            rank: 1,
+            ..guard(answer.partner, !answer.sends(), true)
+        },
+    ]
+}
+
+/// Process `one` offers this guard and the other these two.
+fn one_and_two(one: usize, own: Guard, two: Vec<Guard>) -> Plan {
+    let mut roles = vec![offered(one, &[own], 1)];
+    roles.insert(1 - one, offered(1 - one, &two, 1));
+    Plan { nap: 1, roles }
+}
+
 /// Each list of process 0 with each one of process 1, offered so many times.
 fn pairs(both: [Vec<Vec<Guard>>; 2], times: usize) -> Vec<Plan> {
     let mut plans = Vec::new();
@@ -179,6 +244,7 @@ fn longer_plan(random: &mut Random) -> Plan {
     let twice = random.below(n);
     let both = n == 2 && random.one_in(2);
     let nap = draw_nap(random);
+    let ranked = random.one_in(2);
     let roles = (0..n)
         .map(|party| {
             let choices = lists(&guards(party, n, n == 2));
@@ -186,7 +252,7 @@ fn longer_plan(random: &mut Random) -> Plan {
             let mut draw = |offer| {
                 let mut list = choices[random.below(choices.len())].clone();
                 number(&mut list, party, offer);
-                draw_kinds(random, &mut list);
+                draw_bytes(random, &mut list, ranked);
                 list
             };
             Role {
@@ -204,10 +270,13 @@ fn draw_nap(random: &mut Random) -> u8 {
     random.pick(&[1, 1, 2, 3])
 }
 
-/// Gives one guard in four kind 1.
-fn draw_kinds(random: &mut Random, list: &mut [Guard]) {
+/// Gives one guard in four kind 1, and all of them ranks or none.
+fn draw_bytes(random: &mut Random, list: &mut [Guard], ranked: bool) {
     for guard in list {
         guard.kind = u8::from(random.one_in(4));
+        if ranked {
+            guard.rank = draw::rank(random);
+        }
     }
 }
 
@@ -240,6 +309,7 @@ pub fn guard(partner: usize, sends: bool, enabled: bool) -> Guard {
         enabled,
         partner,
         kind: 0,
+        rank: 0,
         action: match sends {
             true => Action::Send(Message::Nothing),
             false => Action::Receive,
@@ -265,6 +335,8 @@ mod tests {
     fn the_plans_are_all_there() {
         assert_eq!(every_pair().len(), PAIRS);
         assert_eq!(every_pair_by_kind().len(), PAIRS_BY_KIND);
+        assert_eq!(every_pair_by_rank().len(), PAIRS_BY_RANK);
+        assert!(every_pair_by_rank().iter().all(has_ranks));
         assert_eq!(every_pair_twice().len(), 2 * 2);
         assert_eq!(every_pair_twice_by_kind().len(), 2 * 2);
         assert_eq!(every_pair_with_naps().len(), PAIRS_WITH_NAPS + 2 * 2);

@@ -129,8 +129,8 @@ mod tests {
     use super::*;
     use crate::library::Start;
     use crate::plans::guard;
-    use crate::rendezvous::{receives, BEGUN_BYTES, GUARD_KIND, HEAD_BYTES, LIMIT, LINE_BYTES};
-    use crate::rendezvous::{RECORD_INDEX, RECORD_OWN, RECORD_PLACE, RECORD_POSTED};
+    use crate::rendezvous::{receives, BEGUN_BYTES, GUARD_KIND, GUARD_RANK, HEAD_BYTES, LIMIT};
+    use crate::rendezvous::{LINE_BYTES, RECORD_INDEX, RECORD_OWN, RECORD_PLACE, RECORD_POSTED};
     use crate::rendezvous::{SESSION_BEGUN, SESSION_BYTES, SESSION_TABLE, TABLE_BYTES, WORD_BYTES};
     use crate::wire::encode;
     use model::{Message, Place};
@@ -263,11 +263,12 @@ mod tests {
     }
 
     #[test]
-    fn the_library_keeps_any_kind() {
+    fn the_library_keeps_any_kind_and_rank() {
         let table = Proved.create(2, 1).expect("both are good numbers");
         for kind in 0..=255 {
             let guards = vec![Guard {
                 kind,
+                rank: !kind,
                 ..guard(1, false, true)
             }];
             let mut reply = Proved.call(&table, &Call::Offer { party: 0, guards });
@@ -276,8 +277,9 @@ mod tests {
                 reply = Proved.call(&reply.table, &Call::Step { party: 0 });
             }
             let record = &reply.table.bytes()[HEAD_BYTES..];
-            assert_eq!(record[RECORD_OWN + GUARD_KIND], kind);
-            assert_eq!(record[RECORD_POSTED + GUARD_KIND], kind);
+            for list in [RECORD_OWN, RECORD_POSTED] {
+                assert_eq!(record[list + GUARD_KIND..=list + GUARD_RANK], [kind, !kind]);
+            }
         }
     }
 
@@ -377,7 +379,7 @@ mod tests {
         assert!(rendezvous::script_start(&mut session));
         let fed = rendezvous::script_feed(&session, &input, &mut after, &mut out);
         assert_eq!(fed, Some((input.len(), 4)));
-        assert_eq!(after.len(), 7825);
+        assert_eq!(after.len(), 8337);
         assert_eq!(after[SESSION_BEGUN..SESSION_TABLE], [b'm'; BEGUN_BYTES]);
         let table = Proved.create(2, 7).expect("both are good numbers");
         assert_eq!(&after[SESSION_TABLE..], table.bytes());

@@ -8,6 +8,7 @@ use crate::naps::{Naps, SHOWN};
 use crate::pace::Pace;
 use crate::part::{Budget, Finding, Verdict};
 use crate::random::Random;
+use crate::ranks::{self, Ranks};
 use model::{Call, Desk, Given, Place, Withdrawal};
 use std::collections::BTreeSet;
 
@@ -32,6 +33,7 @@ struct Sums {
     late: u64,
     rests: u64,
     by_kinds: ByKinds,
+    ranks: Ranks,
     naps: Naps,
     /// Naps of processes that made steps within an earlier one.
     further_naps: u64,
@@ -54,6 +56,7 @@ fn runs(library: &dyn Library, budget: Budget, sums: &mut Sums) -> Result<(), Fi
             random: Random::new(seed),
             pace: Pace::default(),
             sociable: (seed / 31) % 4 != 0,
+            ranked: !seed.is_multiple_of(3),
             calls: Vec::new(),
             slept: BTreeSet::new(),
             sums,
@@ -81,6 +84,7 @@ impl Sums {
     fn missed(&self) -> Option<String> {
         let by_kinds = self.by_kinds.missed().map(str::to_string);
         by_kinds
+            .or_else(|| self.ranks.missed(&ranks::SHOWN))
             .or_else(|| self.naps.missed(&SHOWN))
             .or_else(|| (self.further_naps == 0).then(|| "nobody slept twice".to_string()))
     }
@@ -88,7 +92,7 @@ impl Sums {
     fn told(&self) -> String {
         format!(
             "reached tables: {} runs, {} of the 31 numbers of processes, {} calls ({} refused), \
-             {} rendezvous, {} collections, {} offers withdrawn, {} too late, {} times at rest; {}; \
+             {} rendezvous, {} collections, {} offers withdrawn, {} too late, {} times at rest; {}; {}; \
              {}, {} naps of such as had napped before",
             self.runs,
             self.sizes.len(),
@@ -100,6 +104,7 @@ impl Sums {
             self.late,
             self.rests,
             self.by_kinds.told(),
+            self.ranks.told(),
             self.naps.told(),
             self.further_naps
         )
@@ -112,6 +117,8 @@ struct Run<'a> {
     pace: Pace,
     /// Whether idle parties offer lists with which the desk never runs dry.
     sociable: bool,
+    /// Whether guards have other ranks than 0.
+    ranked: bool,
     calls: Vec<Call>,
     /// The processes that made steps within a nap.
     slept: BTreeSet<usize>,
@@ -124,7 +131,10 @@ impl Run<'_> {
         let (n, mut follow) = (start.n, Follow::new(self.library, start)?);
         for _ in 0..4 {
             for _ in 0..30 + 15 * n {
-                let call = self.lively(&follow);
+                let mut call = self.lively(&follow);
+                if !self.ranked {
+                    draw::forget_ranks(&mut call);
+                }
                 self.call(&mut follow, call)?;
             }
             self.settle(&mut follow)?;
@@ -159,8 +169,10 @@ impl Run<'_> {
         self.calls.push(call);
         let call = self.calls.last().expect("one was just put there");
         self.sums.by_kinds.note(&follow.desk, call);
+        self.sums.ranks.note(&follow.desk, call);
         self.sums.naps.note(&follow.desk, call);
         let answer = follow.call(self.library, call)?;
+        self.sums.ranks.note_answer(&follow.desk, call, &answer);
         if let Call::Step { party } = *call {
             self.note_nap(&follow.desk, party);
         }
@@ -222,7 +234,8 @@ impl Run<'_> {
 #[cfg(test)]
 mod tests {
     use super::*;
-    use crate::erring::{Erring, KindBlind, OtherNap, ERRORS, NAP_ERRORS};
+    use crate::erring::{Erring, OtherNap, ScansByRank, ERRORS, NAP_ERRORS};
+    use crate::erring::{KIND_BLIND, RANK_ERRORS};
     use crate::library::{Modelled, Reply};
     use crate::wire::Table;
     use model::Message;
@@ -307,8 +320,19 @@ mod tests {
 
     #[test]
     fn searches_that_do_not_look_at_kinds_are_found() {
-        let found = (31..62).find_map(|seed| one_run(&KindBlind, seed).err());
+        let found = (31..62).find_map(|seed| one_run(&KIND_BLIND, seed).err());
         let text = found.expect("a difference").text;
         assert!(text.contains(':') && text.lines().count() < 25, "{text}");
+    }
+
+    #[test]
+    fn errors_in_ranks_are_found_and_told_in_few_lines() {
+        // Those in the top bit want more runs than a test should take.
+        let errors = RANK_ERRORS[..5].iter().map(|error| error as &dyn Library);
+        for library in errors.chain([&ScansByRank as &dyn Library]) {
+            let found = (31..124).find_map(|seed| one_run(library, seed).err());
+            let text = found.expect("a difference").text;
+            assert!(text.contains("\ns ") && text.lines().count() < 25, "{text}");
+        }
     }
 }

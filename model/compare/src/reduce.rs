@@ -1,6 +1,8 @@
-//! Making a failing input smaller: parts are left out, and kinds become 0, as long
-//! as it fails.
+//! Making a failing input smaller: parts are left out, and kinds and ranks become 0, as
+//! long as it fails.
 
+use crate::draw::ByteOf;
+use model::Guard;
 use std::time::{Duration, Instant};
 
 /// Reducing stops after this time with the smallest input so far.
@@ -69,23 +71,26 @@ fn without_a_run<T: Clone>(
     })
 }
 
-/// The same with kind 0 where it still fails with it: in all guards at once, so
-/// that those that match still do, or in one after the other.
-pub fn with_plain_kinds<T: Clone>(
+/// The same with 0 for these bytes of guards where it still fails with it: in all
+/// guards at once, so that those that match still do, or in one after the other.
+pub fn with_zeros<T: Clone>(
     given: T,
-    kinds: impl Fn(&mut T) -> Vec<&mut u8>,
+    bytes: &[ByteOf],
+    guards: impl Fn(&mut T) -> Vec<&mut Guard>,
     mut fails: impl FnMut(&T) -> bool,
 ) -> T {
     let mut kept = given;
-    let count = kinds(&mut kept).len();
-    let one_by_one = (0..count).map(|at| at..at + 1);
-    for some in std::iter::once(0..count).chain(one_by_one) {
-        let mut changed = kept.clone();
-        for kind in &mut kinds(&mut changed)[some] {
-            **kind = 0;
-        }
-        if fails(&changed) {
-            kept = changed;
+    let count = guards(&mut kept).len();
+    for byte in bytes {
+        let one_by_one = (0..count).map(|at| at..at + 1);
+        for some in std::iter::once(0..count).chain(one_by_one) {
+            let mut changed = kept.clone();
+            for guard in &mut guards(&mut changed)[some] {
+                *byte(guard) = 0;
+            }
+            if fails(&changed) {
+                kept = changed;
+            }
         }
     }
     kept
@@ -93,7 +98,9 @@ pub fn with_plain_kinds<T: Clone>(
 
 #[cfg(test)]
 mod tests {
-    use super::{smallest, with_plain_kinds};
+    use super::{smallest, with_zeros};
+    use crate::draw::{kind_of, rank_of, ByteOf};
+    use crate::wire::BLANK;
 
     #[test]
     fn only_what_is_needed_is_left() {
@@ -114,16 +121,30 @@ mod tests {
         assert_eq!(smallest(&[1, 2, 3], |_| true), []);
     }
 
-    fn plain(kinds: [u8; 4], fails: impl FnMut(&[u8; 4]) -> bool) -> [u8; 4] {
-        with_plain_kinds(kinds, |kinds| kinds.iter_mut().collect(), fails)
+    /// What is left of these bytes of four guards where the case needs some of them.
+    fn plain(byte: ByteOf, given: [u8; 4], fails: fn([u8; 4]) -> bool) -> [u8; 4] {
+        let read = |mut guards: [_; 4]| guards.each_mut().map(|guard| *byte(guard));
+        let mut guards = [BLANK; 4];
+        for (guard, value) in guards.iter_mut().zip(given) {
+            *byte(guard) = value;
+        }
+        let fails = |&guards: &_| fails(read(guards));
+        read(with_zeros(
+            guards,
+            &[byte],
+            |all| all.iter_mut().collect(),
+            fails,
+        ))
     }
 
     #[test]
-    fn kinds_become_0_together_or_one_by_one() {
-        let equal = |kinds: &[u8; 4]| kinds[0] == kinds[3];
-        assert_eq!(plain([7, 8, 9, 7], equal), [0; 4]);
-        let apart = |kinds: &[u8; 4]| kinds[0] != kinds[3];
-        assert_eq!(plain([7, 8, 9, 5], apart), [0, 0, 0, 5]);
+    fn kinds_and_ranks_become_0_together_or_one_by_one() {
+        for byte in [kind_of as ByteOf, rank_of] {
+            let equal = plain(byte, [7, 8, 9, 7], |bytes| bytes[0] == bytes[3]);
+            assert_eq!(equal, [0; 4]);
+            let apart = plain(byte, [7, 8, 9, 5], |bytes| bytes[0] != bytes[3]);
+            assert_eq!(apart, [0, 0, 0, 5]);
+        }
     }
 
     #[test]

@@ -1,7 +1,8 @@
 //! Making a failing pair of desk and call smaller, value by value.
 
-use crate::reduce::with_plain_kinds;
-use model::{Call, Desk, Message, Party, Place, Ticket};
+use crate::draw::BYTES;
+use crate::reduce::with_zeros;
+use model::{Call, Desk, Guard, Message, Party, Place, Ticket};
 
 type Case = (Desk, Call);
 
@@ -15,7 +16,7 @@ pub fn reduce(case: Case, fails: impl Fn(&Desk, &Call) -> bool) -> Case {
             .find(|case| *case != smallest && fails(&case.0, &case.1));
         match better {
             Some(case) => smallest = case,
-            None => return with_plain_kinds(smallest, kinds, |case| fails(&case.0, &case.1)),
+            None => return with_zeros(smallest, &BYTES, guards, |case| fails(&case.0, &case.1)),
         }
     }
 }
@@ -85,7 +86,6 @@ fn simpler_records(record: &Party) -> Vec<Party> {
     with(&|party| party.guards.clear());
     with(&|party| party.posted.clear());
     with(&|party| party.guards.truncate(party.guards.len().saturating_sub(1)));
-    with(&|party| party.posted.truncate(party.posted.len().saturating_sub(1)));
     with(&|party| party.signal = None);
     with(&|party| party.ticket = Ticket(0));
     with(&|party| party.wake_count = 1);
@@ -98,23 +98,25 @@ fn simpler_records(record: &Party) -> Vec<Party> {
         with(&|party| quiet(&mut party.guards[at]));
     }
     for at in 0..record.posted.len() {
+        with(&|party| {
+            party.posted.remove(at);
+        });
         with(&|party| quiet(&mut party.posted[at]));
     }
     records
 }
 
-fn kinds((desk, call): &mut Case) -> Vec<&mut u8> {
+fn guards((desk, call): &mut Case) -> Vec<&mut Guard> {
     let parties = desk.parties.iter_mut();
     let lists = parties.flat_map(|party| [&mut party.guards, &mut party.posted]);
     let offered = match call {
         Call::Offer { guards, .. } => Some(guards),
         _ => None,
     };
-    let guards = lists.chain(offered).flatten();
-    guards.map(|guard| &mut guard.kind).collect()
+    lists.chain(offered).flatten().collect()
 }
 
-fn quiet(guard: &mut model::Guard) {
+fn quiet(guard: &mut Guard) {
     if guard.sends() {
         guard.action = model::Action::Send(Message::Nothing);
     }

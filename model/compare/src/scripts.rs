@@ -4,7 +4,7 @@ use crate::part::{Budget, Finding, Verdict};
 use crate::program::{Program, WHOLE};
 use crate::random::Random;
 use crate::reduce::smallest;
-use crate::sorts::{by_kind, by_nap, sort, Sleepers, SORTS};
+use crate::sorts::{by_kind, by_nap, by_rank, sort, Sleepers, SORTS};
 use crate::spoil::{noise, spoil};
 use crate::write::script;
 use std::borrow::Cow;
@@ -33,6 +33,7 @@ impl Sums {
             self.lines += 1;
             let shown = [
                 by_kind(&line, &answer),
+                by_rank(&line, &answer),
                 by_nap(&line, &answer),
                 sleepers.note(&answer),
             ];

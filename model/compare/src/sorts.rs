@@ -1,13 +1,13 @@
 //! The sorts of lines that a script can bring about: by what is printed, and by what
-//! kinds and naps have to do with it.
+//! kinds, ranks and naps have to do with it.
 
 use crate::naps::{LAST_OF_ALL, LAST_OF_ONE, LAST_OF_SOME, WITHIN};
 use std::collections::BTreeMap;
 
 /// Each command, a withdrawal in time and too late, and each refusal but 7 and 12.
-/// Then offers with kinds that are accepted, and such as are malformed for a kind
-/// alone; `n` lines likewise with naps; and steps at S.
-pub const SORTS: [&str; 29] = [
+/// Then offers with kinds or ranks that are accepted, and such as are malformed for a
+/// kind or a rank alone; `n` lines likewise with naps; and steps at S.
+pub const SORTS: [&str; 33] = [
     "n",
     "o",
     "s",
@@ -29,6 +29,10 @@ pub const SORTS: [&str; 29] = [
     WITH_KIND,
     WITH_ZERO,
     CROOKED_KIND,
+    WITH_RANK,
+    WITH_RANK_ZERO,
+    WITH_BOTH,
+    CROOKED_RANK,
     WITH_NAP,
     WITH_ONE,
     COUNT_FIRST,
@@ -41,6 +45,10 @@ pub const SORTS: [&str; 29] = [
 const WITH_KIND: &str = "o with a kind";
 const WITH_ZERO: &str = "o with kind 0 written out";
 const CROOKED_KIND: &str = "x 8 for a kind alone";
+const WITH_RANK: &str = "o with a rank";
+const WITH_RANK_ZERO: &str = "o with rank 0 written out";
+const WITH_BOTH: &str = "o with a kind and a rank at one guard";
+const CROOKED_RANK: &str = "x 8 for a rank alone";
 const WITH_NAP: &str = "n with a nap of more than one step";
 const WITH_ONE: &str = "n with a nap of one step written out";
 const COUNT_FIRST: &str = "x 1 where 15 would come next";
@@ -62,11 +70,27 @@ pub fn by_kind(line: &str, answer: &str) -> Option<&'static str> {
     if !line.contains(':') {
         return None;
     }
-    let mut words = line.split_whitespace();
+    let kinds = without(line, '^');
+    let mut words = kinds.split_whitespace();
     match answer.starts_with('o') {
         true if words.any(|word| word.ends_with(":0")) => Some(WITH_ZERO),
         true => Some(WITH_KIND),
-        false => (malformed(line) && !malformed(&without_kinds(line))).then_some(CROOKED_KIND),
+        false => malformed_for(line, ':').then_some(CROOKED_KIND),
+    }
+}
+
+/// What an offer with ranks in it shows, if it shows something of them.
+pub fn by_rank(line: &str, answer: &str) -> Option<&'static str> {
+    if !line.contains('^') {
+        return None;
+    }
+    let words = || line.split_whitespace();
+    let has_both = |word: &str| word.contains(':') && word.contains('^');
+    match answer.starts_with('o') {
+        true if words().any(|word| word.ends_with("^0")) => Some(WITH_RANK_ZERO),
+        true if words().any(has_both) => Some(WITH_BOTH),
+        true => Some(WITH_RANK),
+        false => malformed_for(line, '^').then_some(CROOKED_RANK),
     }
 }
 
@@ -87,9 +111,14 @@ fn malformed(line: &str) -> bool {
     output.ends_with(b"x 8\n")
 }
 
-/// The line without its colons and the digits behind them.
-fn without_kinds(line: &str) -> String {
-    let pieces = line.split(':').enumerate();
+/// True for a line that is malformed, but not without what this sign begins.
+fn malformed_for(line: &str, sign: char) -> bool {
+    malformed(line) && !malformed(&without(line, sign))
+}
+
+/// The line without these signs and the digits behind them.
+fn without(line: &str, sign: char) -> String {
+    let pieces = line.split(sign).enumerate();
     pieces
         .map(|(at, piece)| match at {
             0 => piece,
@@ -147,8 +176,29 @@ mod tests {
             ("o 0 1?:1:2\n", "x 8\n", Some(CROOKED_KIND)),
             ("o 0 1?:3\n", "x 8\n", None),
             ("o 0 x?:3\n", "x 8\n", None),
+            ("o 0 1?:0^3\n", "o 0 t0\n", Some(WITH_ZERO)),
+            ("o 0 1?:3^0\n", "o 0 t0\n", Some(WITH_KIND)),
+            ("o 0 1?:3^256\n", "x 8\n", None),
         ] {
             assert_eq!(by_kind(line, answer), sort, "{line}");
+        }
+    }
+
+    #[test]
+    fn offers_are_sorted_by_their_ranks() {
+        for (line, answer, sort) in [
+            ("o 0 1?:3\n", "o 0 t0\n", None),
+            ("o 0 1?^3\n", "o 0 t0\n", Some(WITH_RANK)),
+            ("o 0 1?^10 1?:3\n", "o 0 t0\n", Some(WITH_RANK)),
+            ("o 0 1?^0\n", "o 0 t0\n", Some(WITH_RANK_ZERO)),
+            ("o 0 1?:3^3\n", "o 0 t0\n", Some(WITH_BOTH)),
+            ("o 0 1?^256\n", "x 8\n", Some(CROOKED_RANK)),
+            ("o 0 1!^3w5\n", "x 8\n", Some(CROOKED_RANK)),
+            ("o 0 1?^1:2\n", "x 8\n", Some(CROOKED_RANK)),
+            ("o 0 1?^3\n", "x 8\n", None),
+            ("o 0 1?:256^3\n", "x 8\n", None),
+        ] {
+            assert_eq!(by_rank(line, answer), sort, "{line}");
         }
     }
 

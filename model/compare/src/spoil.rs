@@ -3,7 +3,7 @@
 use crate::random::Random;
 
 /// Bytes that a line might be confused by.
-const BYTES: &[u8] = b" \n\r\t\0-+?!:0123456789wrlnoscmxABCDEFabcdef.\x7f\x80\xff";
+const BYTES: &[u8] = b" \n\r\t\0-+?!:^0123456789wrlnoscmxABCDEFabcdef.\x7f\x80\xff";
 
 /// About as long as the first line of a script.
 const FIRST_LINE: usize = 8;

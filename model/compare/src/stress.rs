@@ -189,6 +189,8 @@ fn round(library: &dyn Library, start: Start, seed: u64) -> Result<Shared, Strin
 struct Half {
     thread: usize,
     n: usize,
+    /// Whether guards have other ranks than 0.
+    ranked: bool,
     random: Random,
     /// The letter of each process's place, as far as its own calls told it.
     letters: Vec<char>,
@@ -200,6 +202,7 @@ impl Half {
         Half {
             thread,
             n,
+            ranked: !seed.is_multiple_of(3),
             random: Random::new(seed.wrapping_mul(2).wrapping_add(thread as u64)),
             letters: vec!['I'; n],
             messages: thread as u32,
@@ -242,7 +245,11 @@ impl Half {
         for guard in &mut guards {
             self.mark(guard);
         }
-        Call::Offer { party, guards }
+        let mut call = Call::Offer { party, guards };
+        if !self.ranked {
+            draw::forget_ranks(&mut call);
+        }
+        call
     }
 
     fn mark(&mut self, guard: &mut Guard) {

@@ -1,10 +1,12 @@
-//! How often each refusal, each rule, each withdrawal, each case that kinds or naps
-//! decide and each odd case was hit.
+//! How often each refusal, each rule, each withdrawal, each case that kinds, ranks or
+//! naps decide and each odd case was hit.
 
 use crate::damage::{Point, POINTS};
-use crate::fit::{search, Search};
+use crate::draw::{kind_of, rank_of, ByteOf};
+use crate::fit::{fit, kept, search, Search};
 use crate::library::Reply;
 use crate::naps;
+use crate::ranks;
 use model::{Answer, Call, Desk, Given, Guard, Party, Place, Withdrawal};
 use std::collections::BTreeMap;
 
@@ -23,10 +25,11 @@ const WITHDRAWALS: [(&str, [&str; 2]); 4] = [
     ("IM", [TURNED_AWAY, TURNED_AWAY]),
 ];
 
-// What kinds alone decide.
-const PASSED_OVER: &str = "rule 7 behind a guard that matches but for its kind";
+// What kinds or ranks alone decide.
+const PASSED_OVER: &str = "rule 7 past a guard that matches but for its kind";
 const FOUND_NONE: &str = "rule 8 where a guard matches but for its kind";
 const KINDS_REPLACED: &str = "rule 10 over a list that differs in kinds alone";
+const RANKS_REPLACED: &str = "rule 10 over a list that differs in ranks alone";
 
 // What a sleeper's steps decide, with a nap of d steps.
 const OVERSLEPT_BY_D: &str = "7 for a sleeper with d steps";
@@ -40,15 +43,17 @@ const DISABLED_OWN: &str = "rule 8 with a disabled own guard";
 const TWO_RECEIVING: &str = "rule 9 with two receiving guards";
 const TWO_SENDING: &str = "rule 9 with two sending guards";
 const TWO_KINDS: &str = "rule 9 with guards of two kinds";
+const NOT_THE_BEST: &str = "rule 9 at a guard that matches and that rule 7 would not keep";
 const OLD_SIGNAL: &str = "rule 9 over an old signal";
 const NAN_HANDED_OVER: &str = "rule 9 hands over a NaN";
 const STILL_ACCEPTING: &str = "rule 13 with wake count 0";
 const SIGNAL_STAYS: &str = "withdrawn under an old signal";
 
-const CASES: [&str; 16] = [
+const CASES: [&str; 18] = [
     PASSED_OVER,
     FOUND_NONE,
     KINDS_REPLACED,
+    RANKS_REPLACED,
     OVERSLEPT_BY_D,
     OVERSLEPT_BY_MORE,
     OVERSLEPT_BY_MOST,
@@ -58,6 +63,7 @@ const CASES: [&str; 16] = [
     TWO_RECEIVING,
     TWO_SENDING,
     TWO_KINDS,
+    NOT_THE_BEST,
     OLD_SIGNAL,
     NAN_HANDED_OVER,
     STILL_ACCEPTING,
@@ -74,7 +80,7 @@ impl Tally {
     pub fn new() -> Tally {
         let refusals = REFUSALS.iter().map(|&number| refusal_name(number));
         let rules = (1..=15).map(rule_name);
-        let cases = CASES.iter().chain(&naps::SHOWN);
+        let cases = CASES.iter().chain(&ranks::SHOWN).chain(&naps::SHOWN);
         let cases = cases.map(|name| name.to_string());
         let points = POINTS.iter().map(point_name);
         let names = refusals.chain(rules).chain(cases).chain(points);
@@ -111,7 +117,10 @@ impl Tally {
         self.calls += 1;
         match reply.answer {
             Err(number) => self.refused(number),
-            Ok(_) => self.naps(before, call),
+            Ok(_) => {
+                self.naps(before, call);
+                self.ranks(before, call, reply);
+            }
         }
         match (&reply.answer, call) {
             (Ok(Given::Place(answer)), Call::Step { party }) => {
@@ -137,6 +146,13 @@ impl Tally {
         let mut past = desk.parties.iter().skip(desk.n).filter_map(steps_at_s);
         if past.any(|steps| steps >= desk.nap) {
             self.hit(OVERSLEPT_BY_NOBODY.to_string());
+        }
+    }
+
+    fn ranks(&mut self, desk: &Desk, call: &Call, reply: &Reply) {
+        let by_scan = ranks::shown_by_scan(desk, call, &reply.answer);
+        for name in ranks::shown(desk, call).into_iter().chain(by_scan) {
+            self.hit(name.to_string());
         }
     }
 
@@ -256,34 +272,42 @@ fn case_of(desk: &Desk, party: usize, rule: u8) -> Option<&'static str> {
         }),
         Place::Committed { own, kept } => {
             let own = record.guards[own];
-            odd_delivery(&own, &desk.parties[own.partner], kept)
+            odd_delivery(party, &own, &desk.parties[own.partner], kept)
         }
-        Place::Posting => kinds_alone_differ(record).then_some(KINDS_REPLACED),
+        Place::Posting if differs_by(record, kind_of) => Some(KINDS_REPLACED),
+        Place::Posting => differs_by(record, rank_of).then_some(RANKS_REPLACED),
         Place::Waiting => (rule == 13 && record.wake_count == 0).then_some(STILL_ACCEPTING),
         _ => None,
     }
 }
 
-/// True if the posted list is the own one but for kinds.
-fn kinds_alone_differ(record: &Party) -> bool {
-    let plain = |list: &[Guard]| -> Vec<Guard> {
-        let guards = list.iter();
-        guards.map(|&guard| Guard { kind: 0, ..guard }).collect()
+/// True if the posted list is the own one but for this byte of its guards.
+fn differs_by(record: &Party, byte: ByteOf) -> bool {
+    let plain = |list: &[Guard]| {
+        let mut list = list.to_vec();
+        list.iter_mut().for_each(|guard| *byte(guard) = 0);
+        list
     };
     record.posted != record.guards && plain(&record.posted) == plain(&record.guards)
 }
 
-fn odd_delivery(own: &Guard, partner: &Party, kept: usize) -> Option<&'static str> {
-    let kept = partner.posted[kept];
-    let sender = if own.sends() { own } else { &kept };
-    match (own.sends(), kept.sends()) {
+fn odd_delivery(p: usize, own: &Guard, partner: &Party, at: usize) -> Option<&'static str> {
+    let given = partner.posted[at];
+    let sender = if own.sends() { own } else { &given };
+    match (own.sends(), given.sends()) {
         _ if sender.message().holds_nan() => Some(NAN_HANDED_OVER),
         (false, false) => Some(TWO_RECEIVING),
         (true, true) => Some(TWO_SENDING),
         _ if partner.signal.is_some() => Some(OLD_SIGNAL),
-        _ if own.kind != kept.kind => Some(TWO_KINDS),
-        _ => None,
+        _ if own.kind != given.kind => Some(TWO_KINDS),
+        _ => is_no_best(p, own, partner, at).then_some(NOT_THE_BEST),
     }
+}
+
+/// True if the guard matches, but goes behind another that does.
+fn is_no_best(p: usize, own: &Guard, partner: &Party, at: usize) -> bool {
+    let matches = fit(p, own, own.partner, &partner.posted[at]);
+    matches && kept(p, own, &partner.posted) != Some(at)
 }
 
 #[cfg(test)]

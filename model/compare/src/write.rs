@@ -1,7 +1,8 @@
 //! Random scripts: good sessions, odd lines, and long ones.
 
+use crate::crooked::{crooked_new, crooked_offer};
 use crate::draw;
-use crate::library::{line, line_with, parts, Start};
+use crate::library::{line_with, parts, Start};
 use crate::pace::Pace;
 use crate::random::Random;
 use model::{Call, Desk, Guard, Place};
@@ -48,42 +49,6 @@ const WHOLES: [&str; 16] = [
     "+1",
 ];
 
-/// What may not stand behind a guard.
-const BAD_KINDS: [&str; 12] = [
-    ":",
-    ":00",
-    ":01",
-    ":256",
-    ":1000",
-    ":4294967296",
-    ":-1",
-    ":+1",
-    ":1:2",
-    "::1",
-    ":a",
-    " :1",
-];
-
-/// What may not stand behind a good number of processes.
-const BAD_NAPS: [&str; 16] = [
-    " ",
-    " 00",
-    " 01",
-    " 256",
-    " 1000",
-    " 4294967297",
-    " -1",
-    " +1",
-    " 1 1",
-    " 1 ",
-    "  1",
-    " a",
-    " 1.0",
-    " :1",
-    " 1?",
-    " \t1",
-];
-
 /// Lines that are nearly commands; `w` begins a message as well.
 const NO_COMMANDS: [&str; 8] = ["", "w", "w0", "w-1", "w 0 1", "w 0 1?", "W 0", "w w0"];
 
@@ -102,7 +67,7 @@ fn session(random: &mut Random) -> Vec<u8> {
         _ => 2 + random.below(4),
     };
     let sociable = !random.one_in(3);
-    let with_kinds = !random.one_in(3);
+    let with = Bytes::draw(random);
     let mut pace = Pace::default();
     let (mut desk, mut script) = made(random, n);
     for _ in 0..20 + random.below(300) {
@@ -111,13 +76,8 @@ fn session(random: &mut Random) -> Vec<u8> {
         }
         let party = pace.party(random, &desk);
         let mut call = next_call(random, &desk, party, sociable);
-        if !with_kinds {
-            forget_kinds(&mut call);
-        }
-        let mut line = match with_kinds {
-            true => line_with(&call, |guard| written(random, guard)),
-            false => line(&call),
-        };
+        with.forget_others(&mut call);
+        let mut line = line_with(&call, |guard| with.written(random, guard));
         line.push('\n');
         for _ in 0..times(random, &desk, &call) {
             // Whether it is refused is for the two programs to say.
@@ -126,6 +86,48 @@ fn session(random: &mut Random) -> Vec<u8> {
         }
     }
     script
+}
+
+/// Which bytes the guards of a session have that may be left out.
+struct Bytes {
+    kinds: bool,
+    ranks: bool,
+}
+
+impl Bytes {
+    fn draw(random: &mut Random) -> Bytes {
+        Bytes {
+            kinds: !random.one_in(3),
+            ranks: !random.one_in(3),
+        }
+    }
+
+    fn forget_others(&self, call: &mut Call) {
+        if !self.kinds {
+            forget_kinds(call);
+        }
+        if !self.ranks {
+            draw::forget_ranks(call);
+        }
+    }
+
+    /// A guard's text. A byte that is 0 is left out or not.
+    fn written(&self, random: &mut Random, guard: &Guard) -> String {
+        let [partner, action, mut kind, mut rank] = parts(guard);
+        if self.kinds && guard.kind == 0 && random.one_in(2) {
+            kind = ":0".to_string();
+        }
+        if self.ranks && guard.rank == 0 && random.one_in(4) {
+            rank = "^0".to_string();
+        }
+        [partner, action, kind, rank].concat()
+    }
+}
+
+fn forget_kinds(call: &mut Call) {
+    if let Call::Offer { guards, .. } = call {
+        guards.iter_mut().for_each(|guard| guard.kind = 0);
+    }
 }
 
 /// A fresh desk and the line that makes it. The nap length is often left out, and
@@ -150,21 +152,6 @@ fn times(random: &mut Random, desk: &Desk, call: &Call) -> usize {
     match desk.parties.get(party).map(|record| record.place) {
         Some(Place::Asleep(steps)) if random.one_in(8) => usize::from(desk.nap - steps),
         _ => 1,
-    }
-}
-
-fn forget_kinds(call: &mut Call) {
-    if let Call::Offer { guards, .. } = call {
-        guards.iter_mut().for_each(|guard| guard.kind = 0);
-    }
-}
-
-/// A guard's text; its kind, if it is 0, is left out or not.
-fn written(random: &mut Random, guard: &Guard) -> String {
-    let text = parts(guard).concat();
-    match guard.kind == 0 && random.one_in(2) {
-        true => text + ":0",
-        false => text,
     }
 }
 
@@ -224,32 +211,6 @@ fn odd_nap(random: &mut Random) -> &'static str {
     }
 }
 
-/// A line for a new table that is malformed by its nap length alone.
-fn crooked_new(random: &mut Random) -> String {
-    format!("n {}{}", 2 + random.below(31), random.pick(&BAD_NAPS))
-}
-
-/// An offer that is malformed by the kind of one guard alone.
-fn crooked_offer(random: &mut Random) -> String {
-    let guards = draw::sociable_list(random, 0, 4);
-    let mut texts: Vec<String> = guards.iter().map(|guard| parts(guard).concat()).collect();
-    let at = random.below(guards.len());
-    texts[at] = crooked(random, &guards[at]);
-    format!("o 0 {}", texts.join(" "))
-}
-
-/// A guard whose kind is malformed or stands where it may not.
-fn crooked(random: &mut Random, guard: &Guard) -> String {
-    let [partner, action, _] = parts(guard);
-    let (sign, message) = action.split_at(1);
-    match random.below(6) {
-        0 => format!(":3{partner}{action}"),
-        1 => format!("{partner}:3{action}"),
-        2 if guard.sends() => format!("{partner}{sign}:3{message}"),
-        _ => format!("{partner}{action}{}", random.pick(&BAD_KINDS)),
-    }
-}
-
 fn odd_guard(random: &mut Random) -> String {
     let sign = random.pick(&["", "", "", "-", "--"]);
     let partner = random.pick(&NUMBERS);
@@ -263,11 +224,17 @@ fn odd_guard(random: &mut Random) -> String {
             .pick(&["!", "?0", "!00", "!r", "!x", "", "!w", "?!0"])
             .to_string(),
     };
-    let kind = match random.one_in(4) {
-        true => format!(":{}", random.pick(&NUMBERS)),
+    let kind = odd_byte(random, ':');
+    let rank = odd_byte(random, '^');
+    format!(" {sign}{partner}{action}{kind}{rank}")
+}
+
+/// A kind or a rank at any bound, mostly left out.
+fn odd_byte(random: &mut Random, sign: char) -> String {
+    match random.one_in(4) {
+        true => format!("{sign}{}", random.pick(&NUMBERS)),
         false => String::new(),
-    };
-    format!(" {sign}{partner}{action}{kind}")
+    }
 }
 
 /// Hexadecimal digits, now and then one too few, too many or in upper case.
@@ -313,6 +280,7 @@ fn long_line(random: &mut Random) -> Vec<u8> {
         b"\0",
         b" -1!0",
         b" 1?:255",
+        b" 1?:255^255",
     ]);
     while line.len() < length {
         line.extend(filler);
@@ -334,48 +302,6 @@ mod tests {
         for wanted in [199, 200, 201] {
             assert!(lengths.contains(&wanted));
         }
-    }
-
-    #[test]
-    fn a_crooked_offer_is_malformed_and_good_without_its_kinds() {
-        let mut random = Random::new(6);
-        let mut kinds = BTreeSet::new();
-        for _ in 0..2000 {
-            let guard = draw::sociable_list(&mut random, 0, 4)[0];
-            let text = crooked(&mut random, &guard);
-            let script = format!("n 4\no 0 {text}\n");
-            assert_eq!(
-                model::script::run(script.as_bytes()),
-                b"n 4\nx 8\n",
-                "{text}"
-            );
-            let [partner, action, _] = parts(&guard);
-            kinds.insert(text.replace(&partner, "P").replace(&action, "?"));
-        }
-        for kind in BAD_KINDS {
-            assert!(kinds.contains(&format!("P?{kind}")), "{kind}");
-        }
-        assert!(kinds.contains("P:3?") && kinds.contains(":3P?"));
-    }
-
-    #[test]
-    fn a_crooked_nap_is_malformed_and_good_without_it() {
-        let mut random = Random::new(7);
-        let mut naps = BTreeSet::new();
-        for _ in 0..2000 {
-            let line = crooked_new(&mut random);
-            assert_eq!(
-                model::script::run(format!("{line}\n").as_bytes()),
-                b"x 8\n",
-                "{line}"
-            );
-            let nap = line.trim_start_matches("n ");
-            naps.insert(
-                nap.trim_start_matches(|c: char| c.is_ascii_digit())
-                    .to_string(),
-            );
-        }
-        assert!(naps.iter().eq(&BTreeSet::from(BAD_NAPS)));
     }
 
     #[test]

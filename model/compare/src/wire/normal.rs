@@ -67,8 +67,8 @@ fn one_nan_of(guard: Guard) -> Guard {
 mod tests {
     use super::super::{decode, encode};
     use super::*;
-    use crate::rendezvous::{GUARD_ENABLED, GUARD_KIND, HEAD_NAP, RECORD_INDEX, RECORD_KEPT};
-    use crate::rendezvous::{RECORD_OUTCOME, RECORD_OWN, RECORD_PLACE};
+    use crate::rendezvous::{GUARD_ENABLED, GUARD_KIND, GUARD_RANK, HEAD_NAP, RECORD_INDEX};
+    use crate::rendezvous::{RECORD_KEPT, RECORD_OUTCOME, RECORD_OWN, RECORD_PLACE};
     use model::Desk;
 
     #[test]
@@ -127,6 +127,7 @@ mod tests {
         let mut table = Table::zero();
         table.bytes_mut()[HEAD_BYTES + RECORD_OWN + GUARD_ENABLED] = 1;
         table.bytes_mut()[HEAD_BYTES + RECORD_OWN + GUARD_KIND] = 255;
+        table.bytes_mut()[HEAD_BYTES + RECORD_OWN + GUARD_RANK] = 255;
         assert!(decode(&table).parties[0].guards.is_empty());
         assert_eq!(normal(&table), table);
     }

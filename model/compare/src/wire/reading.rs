@@ -95,12 +95,14 @@ pub fn guard(input: &mut Reader) -> Guard {
     let enabled = input.flag();
     let partner = input.index();
     let kind = input.byte();
+    let rank = input.byte();
     let sends = input.flag();
     let message = message(input);
     Guard {
         enabled,
         partner,
         kind,
+        rank,
         action: match sends {
             true => Action::Send(message),
             false => Action::Receive,
@@ -132,7 +134,8 @@ mod tests {
     use super::*;
     use crate::damage;
     use crate::random::Random;
-    use crate::rendezvous::{GUARD_BYTES, GUARD_ENABLED, GUARD_KIND, GUARD_PARTNER, GUARD_SENDS};
+    use crate::rendezvous::{GUARD_BYTES, GUARD_ENABLED, GUARD_KIND, GUARD_PARTNER};
+    use crate::rendezvous::{GUARD_RANK, GUARD_SENDS};
 
     #[test]
     fn any_desk_is_read_back_as_it_was_written() {
@@ -145,12 +148,13 @@ mod tests {
 
     #[test]
     fn each_part_of_a_guard_has_its_byte() {
-        let (enabled, partner, kind) = (true, 255, 255);
+        let (enabled, partner, kind, rank) = (true, 255, 255, 255);
         let action = Action::Send(Message::Nothing);
         for (part, place) in [
             (Guard { enabled, ..BLANK }, GUARD_ENABLED),
             (Guard { partner, ..BLANK }, GUARD_PARTNER),
             (Guard { kind, ..BLANK }, GUARD_KIND),
+            (Guard { rank, ..BLANK }, GUARD_RANK),
             (Guard { action, ..BLANK }, GUARD_SENDS),
         ] {
             let mut bytes = Vec::new();

@@ -9,6 +9,7 @@ pub const BLANK: Guard = Guard {
     enabled: false,
     partner: 0,
     kind: 0,
+    rank: 0,
     action: Action::Receive,
 };
 
@@ -71,7 +72,7 @@ mod tests {
 
     #[test]
     fn a_table_is_as_long_as_the_document_says() {
-        assert_eq!(Table::zero().bytes().len(), 7622);
+        assert_eq!(Table::zero().bytes().len(), 8134);
     }
 
     #[test]

@@ -63,7 +63,7 @@ fn put_slots(out: &mut Vec<u8>, list: &[Guard]) {
 
 pub fn put_guard(out: &mut Vec<u8>, guard: &Guard) {
     let (enabled, sends) = (u8::from(guard.enabled), u8::from(guard.sends()));
-    out.extend([enabled, guard.partner as u8, guard.kind, sends]);
+    out.extend([enabled, guard.partner as u8, guard.kind, guard.rank, sends]);
     put_message(out, guard.message());
 }
 
@@ -82,7 +82,7 @@ pub fn put_message(out: &mut Vec<u8>, message: Message) {
 #[cfg(test)]
 mod tests {
     use super::*;
-    use crate::rendezvous::{of_kind, receives, sends};
+    use crate::rendezvous::{of_kind, of_rank, receives, sends};
     use crate::rendezvous::{GUARD_BYTES, GUARD_MESSAGE, HEAD_BYTES, HEAD_COUNT, HEAD_NAP};
     use crate::rendezvous::{HEAD_NEXT, MESSAGE_BYTES, MESSAGE_VARIANT, RECORD_ACCEPTING};
     use crate::rendezvous::{LIMIT, NOTHING, READING, WHOLE};
@@ -147,12 +147,14 @@ mod tests {
             enabled: false,
             partner: 9,
             kind: 255,
+            rank: 128,
             action: Action::Send(Message::Whole(-2)),
         };
         let receiving = Guard {
             enabled: true,
             partner: 8,
             kind: 0,
+            rank: 0,
             action: Action::Receive,
         };
         let mut desk = Desk::new(2, 1).expect("both are good numbers");
@@ -163,9 +165,10 @@ mod tests {
         assert_eq!(bytes[RECORD_COUNTS..RECORD_OWN], [1, 2]);
         assert_eq!(bytes[RECORD_OWN..][..GUARD_BYTES], receives(true, 8));
         let (first, rest) = bytes[RECORD_POSTED..].split_at(GUARD_BYTES);
-        assert_eq!(first[..GUARD_MESSAGE], [0, 9, 255, 1]);
+        assert_eq!(first[..GUARD_MESSAGE], [0, 9, 255, 128, 1]);
         assert_eq!(first[GUARD_MESSAGE..], [1, 254, 255, 255, 255, 0, 0, 0, 0]);
-        assert_eq!(first, of_kind(sends(false, 9, WHOLE, 0xffff_fffe, 0), 255));
+        let plain = sends(false, 9, WHOLE, 0xffff_fffe, 0);
+        assert_eq!(first, of_rank(of_kind(plain, 255), 128));
         assert_eq!(rest[..GUARD_BYTES], receives(true, 8));
     }
 
