@@ -3,7 +3,8 @@
    collected, and which lines were refused.
    The script goes to the proved library a line at a time. What a station shows is read out of the table's own bytes, as they stood
    just before and just after that line, and at a collection out of what the line printed; rendezvous.h says what stands where.
-   Each station is held against the guards as the script wrote them; between stations, no line may change what a record holds of them. */
+   Each station is held against the guards as the script wrote them, and a commit also against the posted guard that rule 7 keeps; between
+   stations, no line may change what a record holds of them. */
 #include "rendezvous.h"
 #include <stdarg.h>
 #include <stdio.h>
@@ -17,14 +18,16 @@ enum { STATIONS = 12 };
 /* So many rendezvous wait for an older one to be told. At most RENDEZVOUS_PROCESSES of them have a collection due. */
 enum { STORIES = 256 };
 
-/* A message or guard as a script writes it, a message perhaps with its decimals: the longest is a limit with both. */
+/* A message or guard as a script writes it, a message perhaps with its decimals, or a few words: the longest is a limit with the decimals
+   of low and high, of at most 61 bytes. A guard has at most 30. */
 typedef struct {
     char text[80];
 } Text;
 
+/* The longest is a commit, of at most 159 bytes, that says of each of the seven other posted guards, in at most 88, why it is not kept. */
 typedef struct {
     unsigned long line;
-    char words[224];
+    char words[800];
     Text wanted; /* where the bits differ: what they should be */
 } Station;
 
@@ -168,6 +171,20 @@ static Text readable(Text message) {
     return shown;
 }
 
+/* Puts words behind those that a station has. */
+static void put(Station *station, const char *words, va_list list) {
+    size_t said = strlen(station->words), room = sizeof station->words - said;
+    int length = vsnprintf(station->words + said, room, words, list);
+    if (length < 0 || (size_t)length >= room) fail("a station has more words than there is room for");
+}
+
+__attribute__((format(printf, 2, 3))) static void say(Station *station, const char *words, ...) {
+    va_list list;
+    va_start(list, words);
+    put(station, words, list);
+    va_end(list);
+}
+
 /* Adds a station in the order of lines. */
 __attribute__((format(printf, 3, 4))) static Station *add(Story *story, unsigned long at, const char *words, ...) {
     va_list list;
@@ -176,9 +193,9 @@ __attribute__((format(printf, 3, 4))) static Station *add(Story *story, unsigned
     for (; k > 0 && story->stations[k - 1].line > at; k--) story->stations[k] = story->stations[k - 1];
     story->count++;
     story->stations[k].line = at;
-    story->stations[k].wanted.text[0] = 0;
+    story->stations[k].words[0] = story->stations[k].wanted.text[0] = 0;
     va_start(list, words);
-    vsnprintf(story->stations[k].words, sizeof story->stations[k].words, words, list);
+    put(&story->stations[k], words, list);
     va_end(list);
     return &story->stations[k];
 }
@@ -202,7 +219,7 @@ static void tell(size_t s) {
         if (*wanted && first == 0) first = station->line;
     }
     if (first > 0)
-        printf("  not the same bits: line %lu is the first station that differs\n", first);
+        printf("  not the right bits: line %lu is the first station that differs\n", first);
     else
         printf("  the same bits at every station%s\n", story->due > 0 ? " so far" : "");
     differs = differs || first > 0;
@@ -266,22 +283,55 @@ static void join(Story *story, unsigned p, unsigned i) {
     for (unsigned what = OFFERS; what < ALONE; what++) add_seen(story, p, what);
 }
 
-/* Whether a posted guard matches the one that process p commits at, which is enabled and names the poster. */
-static bool matches(const uint8_t *posted, const uint8_t *guard, unsigned p) {
-    return posted[RENDEZVOUS_GUARD_ENABLED] && posted[RENDEZVOUS_GUARD_PARTNER] == p && posted[RENDEZVOUS_GUARD_SENDS] != guard[RENDEZVOUS_GUARD_SENDS] &&
-           posted[RENDEZVOUS_GUARD_KIND] == guard[RENDEZVOUS_GUARD_KIND];
+static unsigned posted_count(const uint8_t *process) {
+    unsigned count = process[RENDEZVOUS_RECORD_COUNTS + 1];
+    if (count > RENDEZVOUS_GUARDS) fail("a posted list has more guards than there is room for");
+    return count;
 }
 
-/* Why posted guard j was kept, where it is not the first of the partner's that matches. */
-static Text reason(const uint8_t *partner, unsigned j, const uint8_t *guard, unsigned p) {
-    Text why = {""};
-    for (unsigned k = 0; k < j; k++) {
-        const uint8_t *posted = guard_at(partner, RENDEZVOUS_RECORD_POSTED, k);
-        if (!matches(posted, guard, p)) continue;
-        snprintf(why.text, sizeof why.text, "; posted guard %u is the first that matches, but its rank is %u", k, posted[RENDEZVOUS_GUARD_RANK]);
-        break;
+static unsigned posted_rank(const uint8_t *process, unsigned k) { return guard_at(process, RENDEZVOUS_RECORD_POSTED, k)[RENDEZVOUS_GUARD_RANK]; }
+
+/* Why posted guard k of the partner does not match the guard that process p commits at, which names the partner; NULL if it does. */
+static const char *obstacle(const uint8_t *partner, unsigned k, const uint8_t *guard, unsigned p) {
+    const uint8_t *posted = guard_at(partner, RENDEZVOUS_RECORD_POSTED, k);
+    if (!posted[RENDEZVOUS_GUARD_ENABLED]) return "is disabled";
+    if (posted[RENDEZVOUS_GUARD_PARTNER] != p) return "names another process";
+    if (posted[RENDEZVOUS_GUARD_SENDS] == guard[RENDEZVOUS_GUARD_SENDS]) return posted[RENDEZVOUS_GUARD_SENDS] ? "sends too" : "receives too";
+    if (posted[RENDEZVOUS_GUARD_KIND] != guard[RENDEZVOUS_GUARD_KIND]) return "is of another kind";
+    return NULL;
+}
+
+/* Which posted guard of the partner rule 7 keeps: of all that match the one of greatest rank, the first among equals. RENDEZVOUS_GUARDS is
+   none: to a guard that is disabled none matches. */
+static unsigned to_keep(const uint8_t *partner, const uint8_t *guard, unsigned p) {
+    unsigned best = RENDEZVOUS_GUARDS;
+    if (!guard[RENDEZVOUS_GUARD_ENABLED]) return best;
+    for (unsigned k = 0; k < posted_count(partner); k++) {
+        if (obstacle(partner, k, guard, p)) continue;
+        if (best == RENDEZVOUS_GUARDS || posted_rank(partner, k) > posted_rank(partner, best)) best = k;
     }
-    return why;
+    return best;
+}
+
+/* What to_keep gives, in words. */
+static Text choice(const uint8_t *partner, unsigned k) {
+    Text c = {"any posted guard: none matches"};
+    if (k < RENDEZVOUS_GUARDS) snprintf(c.text, sizeof c.text, "posted guard %u (%.30s)", k, guard_in(partner, RENDEZVOUS_RECORD_POSTED, k).text);
+    return c;
+}
+
+/* Says why posted guard j is the one to keep, where that is not plain from the two guards alone: a guard before it matches with a lower
+   rank, or one of higher rank does not match. */
+static void say_why(Station *station, const uint8_t *partner, unsigned j, const uint8_t *guard, unsigned p) {
+    bool matched = false;
+    for (unsigned k = 0; k < posted_count(partner); k++) {
+        const char *why_not = obstacle(partner, k, guard, p);
+        if (why_not && posted_rank(partner, k) > posted_rank(partner, j))
+            say(station, "; posted guard %u (%s) ranks higher, but %s", k, guard_in(partner, RENDEZVOUS_RECORD_POSTED, k).text, why_not);
+        if (!why_not && !matched && k < j)
+            say(station, "; posted guard %u is the first that matches, but its rank is %u", k, posted_rank(partner, k));
+        matched = matched || !why_not;
+    }
 }
 
 static void commits(unsigned p) {
@@ -298,8 +348,12 @@ static void commits(unsigned p) {
     Story *story = begin(sends ? p : q, sends ? q : p, message_written(sends ? wanted : partners));
     join(story, q, j);
     join(story, p, i);
-    Station *station = add(story, line, "process %u commits at its guard %u (%s) to posted guard %u of process %u (%s), whose wake count becomes %d%s", p, i,
-                           mine.text, j, q, kept.text, wake_count_in(partner), reason(partner, j, guard, p).text);
+    Station *station = add(story, line, "process %u commits at its guard %u (%s) to posted guard %u of process %u (%s), whose wake count becomes %d", p, i,
+                           mine.text, j, q, kept.text, wake_count_in(partner));
+    unsigned right = to_keep(partner, guard, p);
+    if (j == right) say_why(station, partner, j, guard, p);
+    /* Where bits differ as well, they are told instead: the choice may follow from them. */
+    want(station, choice(partner, j), choice(partner, right));
     want(station, mine, wanted);
     want(station, kept, partners);
 }

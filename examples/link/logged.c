@@ -7,9 +7,9 @@
    A line is written before its call is made, so that the log of a program that stops ends with the call that it was in. Where tasks
    share a table, write it under the lock that the call is made under: the lines then stand in the order of the calls. A log begins
    where its table is made. A line longer than 200 bytes has 8 in the script. Where the offer was refused, by 3 say, the table stays the
-   same either way. But an offer of eight guards, most of them limits, whose kinds and ranks have many digits can be accepted and have so
-   long a line: the script then goes on without it. Where each guard has a kind or a rank below 10, and the other is 0, no accepted offer
-   is so long. */
+   same either way. But an offer of seven or eight guards with long messages, kinds and ranks can be accepted and have so long a line: the
+   script then goes on without it. A digit of each can be enough: eight limits with `:1^1` make up to 211 bytes. Where each guard has a
+   kind or a rank below 10, and the other is 0, no accepted offer is so long. */
 #include "rendezvous.h"
 #include <stdio.h>
 #include <stdlib.h>
