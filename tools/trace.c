@@ -28,7 +28,7 @@ typedef struct {
 typedef struct {
     unsigned long line;
     char words[800];
-    Text wanted; /* where the bits differ: what they should be */
+    Text wanted; /* where the bits differ, or the choice of a guard: what they should be */
 } Station;
 
 typedef struct {
@@ -219,7 +219,7 @@ static void tell(size_t s) {
         if (*wanted && first == 0) first = station->line;
     }
     if (first > 0)
-        printf("  not the right bits: line %lu is the first station that differs\n", first);
+        printf("  not as it should be: line %lu is the first station that differs\n", first);
     else
         printf("  the same bits at every station%s\n", story->due > 0 ? " so far" : "");
     differs = differs || first > 0;

@@ -103,7 +103,7 @@ isNot c b = not (eqb b c)
 abbrev pub before : ℕ → List ℕ → ℕ
 before c bs = leading (isNot c) bs
 
--- "k formed like N" behind a mark: what stands after a cut is nothing, which says 0, or the mark that was cut at, and k
+-- a kind or a rank: CR 2, "k formed like N", and we read CR 5's k alike. What stands after a cut is nothing, which says 0, or the mark that was cut at, and k
 unfoldable pub markedIn : List ℕ → Option ℕ
 markedIn [] = some 0
 markedIn (mark ∷ k) = byteNumber k

@@ -1,4 +1,4 @@
--- To be believed. CR 5 of document 02, "0 if left out": guards without a `^` are read as they were before there were ranks, with rank 0. The function `rank_left_out` carries these claims.
+-- To be believed. CR 5 of document 02, "0 if left out": guards without a `^` are read as document 01 and CR 2 have them, with rank 0. The function `rank_left_out` carries these claims.
 use Prim.Native.Nat.{ℕ}
 use Prim.Native.Char.{code}
 use mathlib.Core.Path.{_≡_}
@@ -15,7 +15,7 @@ abbrev pub EachLacks : ℕ → List (List ℕ) → Type 0
 EachLacks c [] = Unit {0}
 EachLacks c (f ∷ fs) = Lacks c f × EachLacks c fs
 
--- the guards of an offer as they were read before there were ranks
+-- the guards of an offer as document 01 and CR 2 have them
 abbrev pub kindedGuardsIn : List (List ℕ) → Option (List Guard)
 kindedGuardsIn [] = some []
 kindedGuardsIn (f ∷ fs) = do

@@ -74,12 +74,12 @@ pub fn line_cases()
     ensures { λ _. ⌜ LineCases ⌝ }
 {}
 
-// Carries that what stands before a guard's rank, without a `:`, is read as it was before there were kinds, with kind 0.
+// Carries that what stands before a guard's rank, without a `:`, is read as document 01 has it, with kind 0.
 pub fn kind_left_out()
     ensures { λ _. ⌜ KindLeftOut ⌝ }
 {}
 
-// Carries that guards without a `^` are read as they were before there were ranks, and that a line without one offers guards of rank 0 alone.
+// Carries that guards without a `^` are read as document 01 and CR 2 have them, and that a line without one offers guards of rank 0 alone.
 pub fn rank_left_out()
     ensures { λ _. ⌜ RankLeftOut ⌝ }
 {}

@@ -65,7 +65,7 @@ stories =
     ∷ case
     (makes 3 ∷ map Do (meetCalls (ranked 1 1 ∷ ranked 2 2 ∷ ofRank 9 (sends 2 (whole 3)) ∷ []) (0 ∷ 1 ∷ 2 ∷ []) (receive 0)))
     (made ∷ meetSays (0 ∷ 1 ∷ 2 ∷ []) 1 Message.Nothing (whole 2))
-    -- the own guard's rank is not compared, lower or higher than the others
+    -- the own guard's rank is not compared, whether between the others or above them
     ∷ takes figures (0 ∷ 1 ∷ []) (ofRank 5 (receive 0)) 1 17
     ∷ takes figures (0 ∷ 1 ∷ []) (ofRank 255 (receive 0)) 1 17
     -- "The scanning side still goes by list order.": processes 1 and 2 wait, and 0 meets the one that its first guard names

@@ -1,5 +1,5 @@
--- To be believed. CR 5 of document 02, a rank is "0 if left out": where no guard that is offered has a rank, rule 7 keeps the guard that it kept before there were ranks. The function
--- `calls_without_ranks` carries this claim, of every list of calls. (Rule 7's search and the book's, which is the same, are all that looks at a rank.)
+-- To be believed. CR 5 of document 02, a rank is "0 if left out": where no guard that is offered has a rank, rule 7 keeps the first guard that matches, as in document 01. The function
+-- `calls_without_ranks` carries this claim, of every list of calls. (Of rules, calls and book nothing else than this search looks at a rank.)
 use Rattle.alternative.specs.Guards.{keptMatch}
 use Rattle.alternative.specs.Ranks.{AllOfRank, firstMatch}
 use Rattle.process.specs.Process.{postedList}

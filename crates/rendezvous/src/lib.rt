@@ -132,7 +132,7 @@ pub fn withdraws_open()
     ensures { λ _. ⌜ WithdrawsOpen ⌝ }
 {}
 
-// Carries the claim that where no guard that is offered has a rank, rule 7 keeps the guard that it kept before there were ranks.
+// Carries the claim that where no guard that is offered has a rank, rule 7 keeps the first guard that matches, as in document 01.
 pub fn calls_without_ranks()
     ensures { λ _. ⌜ CallsWithoutRanks ⌝ }
 {}

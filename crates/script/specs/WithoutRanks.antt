@@ -1,6 +1,6 @@
--- To be believed. CR 5 of document 02, a rank is "0 if left out": in a script without a `^`, rule 7 keeps the guard that it kept before there were ranks. The function `without_ranks`
--- carries this claim, of each table with which such a script goes on. (Its lines are read as they were, says `RankLeftOut` of command; and rule 7's search is all of a script that looks at
--- a rank.)
+-- To be believed. CR 5 of document 02, a rank is "0 if left out": in a script without a `^`, rule 7 keeps the first guard that matches, as in document 01. The function `without_ranks`
+-- carries this claim, of each table with which such a script goes on. (That its lines are read as document 01 and CR 2 have them says `RankLeftOut` of command; and of rules, calls and
+-- lines nothing else than rule 7's search looks at a rank.)
 use Prim.Native.Nat.{ℕ}
 use Prim.Native.Char.{code}
 use mathlib.Core.List.{List, [], _∷_}

@@ -72,7 +72,7 @@ pub fn alarm_first()
     ensures { λ _. ⌜ AlarmFirst ⌝ }
 {}
 
-// Carries the claim that in a script without a `^` rule 7 keeps the guard that it kept before there were ranks.
+// Carries the claim that in a script without a `^` rule 7 keeps the first guard that matches, as in document 01.
 pub fn without_ranks()
     ensures { λ _. ⌜ WithoutRanks ⌝ }
 {}
