@@ -57,7 +57,7 @@ guards-bare (f ∷ fs) lacks = go (guardIn f) (λ g e. rank-zero f g (sym (rank-
     go (some g) a (some gs) b = bare-more g gs (a g refl) b
 
 -- the guards of an offer, if the command is one, have rank 0
-abbrev BareOffer : Option Command → Type 0
+abbrev pub BareOffer : Option Command → Type 0
 BareOffer c = (p : ℕ) (gs : List Guard) → c ≡ some (Do (Offer p gs)) → AllOfRank 0 gs
 
 none-bare : BareOffer none

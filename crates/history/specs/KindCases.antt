@@ -12,7 +12,7 @@ use Rattle.history.specs.Machine.{bookAfterAll, madeByAll}
 use Rattle.history.specs.Tables.{tables}
 use Rattle.history.specs.Cases.{Case, Hold, case, makes, receive, send, sends, disabled, at}
 
-abbrev wholes : ℕ → Message
+abbrev pub wholes : ℕ → Message
 wholes n = Message.Whole (pos n)
 
 -- temperature is of kind 1, strain of kind 2. The store, process 0, waits for one of the two; the pier, process 1, has strain 340 first, and temperature 21.

@@ -7,8 +7,6 @@ use mathlib.Core.List.{List, [], _∷_, _++_}
 use mathlib.Core.Option.{Option, some, none}
 use lib.ListN.{length}
 use lib.Dec.{eqb, leb}
-use Rattle.alternative.specs.declared.Guard.{Guard}
-use Rattle.alternative.specs.Ranks.{AllOfRank}
 use Rattle.rendezvous.specs.Refusals.{createVerdict, tableVerdict}
 use Rattle.rendezvous.specs.Table.{freshTable}
 use Rattle.rendezvous.specs.Calls.{create}
@@ -18,7 +16,7 @@ use Rattle.rendezvous.specs.WithoutRanks.{AsBefore}
 use Rattle.rendezvous.proofs.Unranked.{BareTable, bare-search, call-bare, if-bare, fresh-bare}
 use Rattle.command.specs.Commands.{commandOf}
 use Rattle.command.specs.KindLeftOut.{Lacks}
-use Rattle.command.proofs.Unranked.{rank-left-out}
+use Rattle.command.proofs.Unranked.{BareOffer, rank-left-out}
 use Rattle.script.specs.Types.{ProcessTable, Reply, Offer, Step, Collect, Withdraw, Command, New, Do, Movers}
 use Rattle.script.specs.Printing.{commandText, endOfLine}
 use Rattle.script.specs.Lines.{Ended, mostBytes, linesFrom, lineCommand}
@@ -33,15 +31,11 @@ as-before : (table : Option ProcessTable) → Bare table → IfMade AsBefore tab
 as-before none bare = tt
 as-before (some t) bare = bare-search t bare
 
--- a command that offers none
-abbrev BareCommand : Option Command → Type 0
-BareCommand c = (p : ℕ) (gs : List Guard) → c ≡ some (Do (Offer p gs)) → AllOfRank 0 gs
-
 create-bare : (n d : ℕ) → BareTable (create n d .table)
 unfolding create
 create-bare n d = if-bare (createVerdict n d) (freshTable 0 0) _ (fresh-bare 0 0) (fresh-bare n d)
 
-reply-bare : (t : ProcessTable) (c : Command) → BareTable t → BareCommand (some c) → BareTable (replyToCommand t c .table)
+reply-bare : (t : ProcessTable) (c : Command) → BareTable t → BareOffer (some c) → BareTable (replyToCommand t c .table)
 unfolding replyToCommand runnable
 reply-bare t (New n d) bare h = create-bare n d
 reply-bare t (Do (Offer p gs)) bare h = call-bare t bare (Offer p gs) (h p gs refl)
@@ -58,7 +52,7 @@ answered-bare table command reply bare after = go (isRefused (reply .answer))
     go true = bare
     go false = after
 
-turn-bare : (table : Option ProcessTable) (c : Option Command) → Bare table → BareCommand c → Bare (turn table c .table)
+turn-bare : (table : Option ProcessTable) (c : Option Command) → Bare table → BareOffer c → Bare (turn table c .table)
 unfolding turn replyFrom
 turn-bare table none bare h = bare
 turn-bare (some t) (some c) bare h = answered-bare (some t) (commandText c) (replyToCommand t c) bare (reply-bare t c bare h)
@@ -66,11 +60,11 @@ turn-bare none (some (New n d)) bare h = answered-bare none (commandText (New n 
 turn-bare none (some (Do c)) bare h = tt
 turn-bare none (some Movers) bare h = tt
 
-line-bare : (line : List ℕ) → Lacks (code "^") line → BareCommand (lineCommand (Ended line))
+line-bare : (line : List ℕ) → Lacks (code "^") line → BareOffer (lineCommand (Ended line))
 unfolding lineCommand
 line-bare line lacks = go (leb (length line) mostBytes)
   where
-    go : (fits : Bool) → BareCommand (cond fits (commandOf line) none)
+    go : (fits : Bool) → BareOffer (cond fits (commandOf line) none)
     go true = λ p gs. rank-left-out .lines line p gs lacks
     go false = λ p gs e k h f. cc
 

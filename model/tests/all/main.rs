@@ -13,6 +13,7 @@ mod nap;
 mod orders;
 mod program;
 mod ranks;
+mod ranks_in_scripts;
 mod refusals;
 mod rules;
 mod runs;
