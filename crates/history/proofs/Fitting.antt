@@ -1,9 +1,10 @@
 -- A good table is well-formed.
 use Prim.Native.Nat.{ℕ, zero, suc}
 use mathlib.Core.Path.{_≡_, refl, subst}
-use mathlib.Core.Bool.{Bool, true, _&&_}
+use mathlib.Core.Bool.{Bool, true}
 use mathlib.Core.Option.{some}
 use Rattle.alternative.specs.declared.Message.{Message}
+use Rattle.alternative.proofs.Tests.{both}
 use native.Mathlib.Omega.{arith}
 use lib.Dec.{ltb}
 use borrow.Author.Tests.{le-leb}
@@ -19,9 +20,6 @@ use Rattle.history.proofs.Invariant.{PlaceFormed, Good}
 use Rattle.history.proofs.Matches.{match}
 use Rattle.history.proofs.Facts.{at-on, shown, commit-binds}
 use Rattle.history.proofs.Formed.{on-below}
-
-both : (a b : Bool) → a ≡ true → b ≡ true → (a && b) ≡ true
-both a b e f = rw (e, f)
 
 all-below : (test : ℕ → Bool) (n : ℕ) → ((k : ℕ) → test k ≡ true) → allBelow test n ≡ true
 unfolding allBelow

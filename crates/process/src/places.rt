@@ -1,10 +1,10 @@
-// What a place says: its letter and guard index, the word that others read, whether a process is idle, and the outcome at M.
+// What a place says: its letter and guard index, the word that others read, whether a process is idle or its offer open, and the outcome at M.
 use crate::Place;
 use crate::Signal;
 use crate::State;
 use alternative::Found;
 ghost use mathlib.Core.Path.{_≡_};
-ghost use Rattle.process.specs.Process.{letterOf, stateOf, indexOf, isIdle};
+ghost use Rattle.process.specs.Process.{letterOf, stateOf, indexOf, isIdle, openAt};
 ghost use Rattle.process.specs.InCode.{asFound, outcomeOf};
 
 impl Place {
@@ -68,6 +68,25 @@ impl Place {
         ensures { λ r. ⌜ r ≡ isIdle self ⌝ }
     {
         self.letter() == b'I'
+    }
+
+    // Whether the offer of a process there is open, by its wake count: at H and W it is while that is 0.
+    pub fn is_open(self, accepting: bool) -> bool
+        ensures { λ r. ⌜ r ≡ openAt self accepting ⌝ }
+    {
+        match self {
+            Place::Entering => true,
+            Place::Scanning(_) => true,
+            Place::Trying(_) => true,
+            Place::Posting => true,
+            Place::Opening => true,
+            Place::Asleep(_) => true,
+            Place::Showing => accepting,
+            Place::Waiting => accepting,
+            Place::Idle => false,
+            Place::Committed(_, _) => false,
+            Place::Met(_, _) => false,
+        }
     }
 
     // The outcome at M, as a signal has it: a guard index with a message, or absent.

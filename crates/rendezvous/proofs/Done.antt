@@ -13,16 +13,17 @@ use Rattle.process.specs.Rules.{Effect, Neither, Own, Both, changed, rule, part
 use Rattle.process.specs.InCode.{changeOf, outcomeOf}
 use Rattle.process.proofs.PlaceCases.{both-carried}
 use Rattle.process.proofs.OnlyTold.{OnlyTold, rule-only-told}
-use Rattle.rendezvous.specs.declared.Act.{Act}
+use Rattle.rendezvous.specs.declared.{Form.Form, Act.Act}
 use Rattle.rendezvous.specs.Types.{Place, Process, Head, ProcessTable, Refusal, Verdict, Answer, Reply}
 use Rattle.rendezvous.specs.Table.{mostProcesses, process, put, withNext}
 use Rattle.rendezvous.specs.WellFormed.{wellFormed}
+use Rattle.rendezvous.specs.Forms.{formEnd}
 use Rattle.rendezvous.specs.Refusals.{require, processTests, processVerdict, listVerdict, stateVerdict, offerTests, offerVerdict, withdrawTests}
 use Rattle.rendezvous.specs.Refusals.{withdrawVerdict}
 use Rattle.rendezvous.specs.Calls.{ifAccepted, entering, offered, offerList, effectOn, applied, stepped, step, collected, collect, commitCameFirst}
 use Rattle.rendezvous.specs.Calls.{withdrawnOrLate, withdraw}
 use Rattle.rendezvous.specs.Acts.{alone, unlessRefused, offerAct, movedAct, stepAct, collectedAct, collectAct, withdrawnOrLateAct, withdrawAct, done}
-use Rattle.rendezvous.specs.Acts.{ActsAreCalls}
+use Rattle.rendezvous.specs.Acts.{FormOf, ActsAreCalls, AllActsAreCalls}
 use Rattle.rendezvous.proofs.Steps.{inside}
 
 -- an act that changes nothing: what was read is written again
@@ -56,13 +57,13 @@ module _ (t : ProcessTable) (p : ℕ) where
   withdrawn-done q true = nothing-done t p q Answer.TooLate
   withdrawn-done q false = refl
 
-pub acts-are-calls : ActsAreCalls
+pub acts-are-calls : AllActsAreCalls
 unfolding done offerAct stepAct collectAct withdrawAct processVerdict offerVerdict withdrawVerdict offerList offered step stepped effectOn collect withdraw
-acts-are-calls = record {
-  offers = λ t p q list. if-done t p q (offerVerdict t p list) _ (offered t p list) refl;
-  steps = λ t p. let x = process t p in let q = partnerOf x in if-done t p q (processVerdict t p) _ _ (applied-done t p q (rule (t .head .nap) p x q (process t q)) (rule-only-told (t .head .nap) p x q (process t q)));
-  collects = λ t p q. if-done t p q (processVerdict t p) _ _ (collected-done t p q (process t p .place));
-  withdraws = λ t p q. if-done t p q (withdrawVerdict t p) _ _ (withdrawn-done t p q (commitCameFirst (process t p .place) (process t p .accepting)));
+acts-are-calls t form e = record {
+  offers = λ p q list. rw e (if-done t p q (offerVerdict t p list) _ (offered t p list) refl);
+  steps = λ p. let x = process t p in let q = partnerOf x in rw e (if-done t p q (processVerdict t p) _ _ (applied-done t p q (rule (t .head .nap) p x q (process t q)) (rule-only-told (t .head .nap) p x q (process t q))));
+  collects = λ p q. rw e (if-done t p q (processVerdict t p) _ _ (collected-done t p q (process t p .place)));
+  withdraws = λ p q. rw e (if-done t p q (withdrawVerdict t p) _ _ (withdrawn-done t p q (commitCameFirst (process t p .place) (process t p .accepting))));
 }
 
 -- as the code carries an act out: the partner's record, where it is told something, then the own record and the head
@@ -78,11 +79,11 @@ done-own t u i j act told f = rw (f, told)
 
 -- The code reads and writes the records at i = p % mostProcesses and j = q % mostProcesses: those of p and q where 7 and 2 let p pass. Where they do not, what was read is written again,
 -- wherever it was.
-at-places : (t : ProcessTable) (p q i j : ℕ) (rest : Process → Verdict) (act : Process → Process → Act) → (processVerdict t p ≡ Verdict.Accepted → (i ≡ p) × (j ≡ q))
-    → done t i j (unlessRefused (processTests (wellFormed t) (t .head .n) p (rest (process t i))) (t .head) (process t i) (act (process t i) (process t j)))
-    ≡ done t p q (unlessRefused (processTests (wellFormed t) (t .head .n) p (rest (process t p))) (t .head) (process t p) (act (process t p) (process t q)))
+at-places : (t : ProcessTable) (form : Form) → FormOf t form → (p q i j : ℕ) (rest : Process → Verdict) (act : Process → Process → Act) → (processVerdict t p ≡ Verdict.Accepted → (i ≡ p) × (j ≡ q))
+    → done t i j (unlessRefused (processTests (formEnd form (t .head)) (t .head .n) p (rest (process t i))) (t .head) (process t i) (act (process t i) (process t j)))
+    ≡ done t p q (unlessRefused (processTests (formEnd form (t .head)) (t .head .n) p (rest (process t p))) (t .head) (process t p) (act (process t p) (process t q)))
 unfolding processVerdict
-at-places t p q i j rest act same = go (wellFormed t) refl (ltb p (t .head .n)) refl
+at-places t form told p q i j rest act same = go (formEnd form (t .head)) (sym told) (ltb p (t .head .n)) refl
   where
     go : (a : Bool) → wellFormed t ≡ a → (b : Bool) → ltb p (t .head .n) ≡ b
         → done t i j (unlessRefused (require a Refusal.NotWellFormed (require b Refusal.NoSuchProcess (rest (process t i)))) (t .head) (process t i) (act (process t i) (process t j)))
@@ -105,49 +106,49 @@ withdrawn-untold h x true = refl
 withdrawn-untold h x false = refl
 
 -- from what the code has read: the act, carried out where it was read, is the call
-module _ (t : ProcessTable) (p : ℕ) (formed : Bool) (form : formed ≡ wellFormed t) (act : Act) where
+module _ (t : ProcessTable) (p : ℕ) (form : Form) (told : FormOf t form) (act : Act) where
   abbrev x : Process
   x = process t (p % mostProcesses)
 
   abbrev written : Reply
   written = record { answer = act .answer; table = record { head = act .head; processes = set (t .processes) (p % mostProcesses) (act .own) } }
 
-  pub offer-done : (list : GuardList) (j : ℕ) → act ≡ offerAct formed (t .head) p x list → done t (p % mostProcesses) j act ≡ offerList t p list
+  pub offer-done : (list : GuardList) (j : ℕ) → act ≡ offerAct form (t .head) p x list → done t (p % mostProcesses) j act ≡ offerList t p list
   unfolding offerAct
   offer-done list j e =
-      rw (e, form)
-      (at-places t p j (p % mostProcesses) j (λ x. listVerdict (t .head .n) p list (stateVerdict (x .place) (t .head .next)))
+      rw e
+      (at-places t form told p j (p % mostProcesses) j (λ x. listVerdict (t .head .n) p list (stateVerdict (x .place) (t .head .next)))
       (λ x y. alone (Answer.Offered (t .head .next)) (withNext (t .head) (t .head .next .0 + 1)) (entering x (t .head .next) list)) (λ a. (inside t p a .own, refl))
-      ∙ acts-are-calls .offers t p j list)
+      ∙ acts-are-calls t form told .offers p j list)
 
-  pub offer-written : (list : GuardList) → act ≡ offerAct formed (t .head) p x list → written ≡ offerList t p list
+  pub offer-written : (list : GuardList) → act ≡ offerAct form (t .head) p x list → written ≡ offerList t p list
   unfolding offerAct
-  offer-written list e = done-own t t (p % mostProcesses) 0 act (rw e (if-untold (offerTests formed (t .head) p list (x .place)) (t .head) x _ refl)) refl ∙ offer-done list 0 e
+  offer-written list e = done-own t t (p % mostProcesses) 0 act (rw e (if-untold (offerTests (formEnd form (t .head)) (t .head) p list (x .place)) (t .head) x _ refl)) refl ∙ offer-done list 0 e
 
-  pub step-done : (q : ℕ) → q ≡ partnerOf x → act ≡ stepAct formed (t .head) p x q (process t (q % mostProcesses)) → done t (p % mostProcesses) (q % mostProcesses) act ≡ step t p
+  pub step-done : (q : ℕ) → q ≡ partnerOf x → act ≡ stepAct form (t .head) p x q (process t (q % mostProcesses)) → done t (p % mostProcesses) (q % mostProcesses) act ≡ step t p
   unfolding stepAct
   step-done q named e =
-      rw (e, form, named)
-      (at-places t p (partnerOf (process t p)) (p % mostProcesses) (partnerOf x % mostProcesses) (λ x. Verdict.Accepted) (λ x y. movedAct (t .head) (changeOf x y (rule (t .head .nap) p x (partnerOf x) y))) (λ a. (inside t p a .own, rw (inside t p a .own) (inside t p a .partner)))
-      ∙ acts-are-calls .steps t p)
+      rw (e, named)
+      (at-places t form told p (partnerOf (process t p)) (p % mostProcesses) (partnerOf x % mostProcesses) (λ x. Verdict.Accepted) (λ x y. movedAct (t .head) (changeOf x y (rule (t .head .nap) p x (partnerOf x) y))) (λ a. (inside t p a .own, rw (inside t p a .own) (inside t p a .partner)))
+      ∙ acts-are-calls t form told .steps p)
 
-  pub collect-done : (j : ℕ) → act ≡ collectAct formed (t .head) p x → done t (p % mostProcesses) j act ≡ collect t p
+  pub collect-done : (j : ℕ) → act ≡ collectAct form (t .head) p x → done t (p % mostProcesses) j act ≡ collect t p
   unfolding collectAct
   collect-done j e =
-      rw (e, form)
-      (at-places t p j (p % mostProcesses) j (λ x. Verdict.Accepted) (λ x y. collectedAct (t .head) x (outcomeOf (x .place))) (λ a. (inside t p a .own, refl)) ∙ acts-are-calls .collects t p j)
+      rw e
+      (at-places t form told p j (p % mostProcesses) j (λ x. Verdict.Accepted) (λ x y. collectedAct (t .head) x (outcomeOf (x .place))) (λ a. (inside t p a .own, refl)) ∙ acts-are-calls t form told .collects p j)
 
-  pub collect-written : act ≡ collectAct formed (t .head) p x → written ≡ collect t p
+  pub collect-written : act ≡ collectAct form (t .head) p x → written ≡ collect t p
   unfolding collectAct
-  collect-written e = done-own t t (p % mostProcesses) 0 act (rw e (if-untold (processTests formed (t .head .n) p Verdict.Accepted) (t .head) x _ (collected-untold (t .head) x (outcomeOf (x .place))))) refl ∙ collect-done 0 e
+  collect-written e = done-own t t (p % mostProcesses) 0 act (rw e (if-untold (processTests (formEnd form (t .head)) (t .head .n) p Verdict.Accepted) (t .head) x _ (collected-untold (t .head) x (outcomeOf (x .place))))) refl ∙ collect-done 0 e
 
-  pub withdraw-done : (j : ℕ) → act ≡ withdrawAct formed (t .head) p x → done t (p % mostProcesses) j act ≡ withdraw t p
+  pub withdraw-done : (j : ℕ) → act ≡ withdrawAct form (t .head) p x → done t (p % mostProcesses) j act ≡ withdraw t p
   unfolding withdrawAct
   withdraw-done j e =
-      rw (e, form)
-      (at-places t p j (p % mostProcesses) j (λ x. require (not (isAt "IM" (x .place))) Refusal.NothingToWithdraw Verdict.Accepted) (λ x y. withdrawnOrLateAct (t .head) x (commitCameFirst (x .place) (x .accepting))) (λ a. (inside t p a .own, refl))
-      ∙ acts-are-calls .withdraws t p j)
+      rw e
+      (at-places t form told p j (p % mostProcesses) j (λ x. require (not (isAt "IM" (x .place))) Refusal.NothingToWithdraw Verdict.Accepted) (λ x y. withdrawnOrLateAct (t .head) x (commitCameFirst (x .place) (x .accepting))) (λ a. (inside t p a .own, refl))
+      ∙ acts-are-calls t form told .withdraws p j)
 
-  pub withdraw-written : act ≡ withdrawAct formed (t .head) p x → written ≡ withdraw t p
+  pub withdraw-written : act ≡ withdrawAct form (t .head) p x → written ≡ withdraw t p
   unfolding withdrawAct
-  withdraw-written e = done-own t t (p % mostProcesses) 0 act (rw e (if-untold (withdrawTests formed (t .head .n) p (x .place)) (t .head) x _ (withdrawn-untold (t .head) x (commitCameFirst (x .place) (x .accepting))))) refl ∙ withdraw-done 0 e
+  withdraw-written e = done-own t t (p % mostProcesses) 0 act (rw e (if-untold (withdrawTests (formEnd form (t .head)) (t .head .n) p (x .place)) (t .head) x _ (withdrawn-untold (t .head) x (commitCameFirst (x .place) (x .accepting))))) refl ∙ withdraw-done 0 e

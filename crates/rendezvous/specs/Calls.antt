@@ -1,11 +1,11 @@
--- To be believed. Document 01, "Calls", and CRs 1 and 3 of document 02: what each call answers, and the table that it hands back.
+-- To be believed. Document 01, "Calls", and CRs 1, 3 and 6 of document 02: what each call answers, and the table that it hands back.
 use Rattle.alternative.specs.Guards.{slots, lent}
 use Rattle.process.specs.Process.{isAt, ifMet, ownGuard}
 use Rattle.process.specs.Rules.{Effect, Neither, Own, Both, changed, atPlace, rule, partnerOf}
-use Rattle.rendezvous.specs.Types.{ℕ, _+_, _≡_, Bool, true, false, not, _&&_, _||_, List, set, take, Guard, GuardList, TransactionId, Place, Process}
-use Rattle.rendezvous.specs.Types.{ProcessTable, Refusal, Verdict, Answer}
+use Rattle.rendezvous.specs.Types.{ℕ, _+_, _≡_, Bool, true, false, not, _&&_, _||_, cond, List, take, Guard, GuardList, TransactionId, Place, Process}
+use Rattle.rendezvous.specs.Types.{Head, ProcessTable, Refusal, Verdict, Answer}
 use Rattle.rendezvous.specs.Types.{Reply}
-use Rattle.rendezvous.specs.Table.{process, put, withNext, freshTable}
+use Rattle.rendezvous.specs.Table.{process, put, withHead, withNext, withMeeting, withWithdrawal, freshTable}
 use Rattle.rendezvous.specs.Refusals.{createVerdict, processVerdict, offerVerdict, withdrawVerdict}
 
 -- A refusal "returns its number and the desk received, bit for bit."
@@ -27,8 +27,7 @@ entering x ticket list = let guards = slots (take (list .count) (list .guards)) 
 unfoldable pub offered : ProcessTable → ℕ → GuardList → Reply
 offered t p list =
     let ticket = t .head .next in
-    let head = withNext (t .head) (ticket .0 + 1) in
-    record { answer = Answer.Offered ticket; table = record { head = head; processes = set (t .processes) p (entering (process t p) ticket list) } }
+    record { answer = Answer.Offered ticket; table = withHead (put t p (entering (process t p) ticket list)) (withNext (t .head) (ticket .0 + 1)) }
 
 unfoldable pub offerList : ProcessTable → ℕ → GuardList → Reply
 offerList t p list = ifAccepted (offerVerdict t p list) t (offered t p list)
@@ -41,10 +40,14 @@ offer t p gs = offerList t p (lent gs)
 unfoldable pub effectOn : ProcessTable → ℕ → Effect
 effectOn t p = let x = process t p in rule (t .head .nap) p x (partnerOf x) (process t (partnerOf x))
 
+-- CR 6, meetings are the history's "commits": of the two rules that change both records, 7 is the commit, and leads to C
+abbrev pub headAfter : Head → Place → Head
+headAfter h place = cond (isAt "C" place) (withMeeting h) h
+
 abbrev pub applied : ProcessTable → ℕ → ℕ → Effect → Reply
 applied t p q Neither = record { answer = Answer.Unchanged; table = t }
 applied t p q (Own x) = record { answer = Answer.Moved (x .place); table = put t p x }
-applied t p q (Both x y) = record { answer = Answer.Moved (x .place); table = put (put t q y) p x }
+applied t p q (Both x y) = record { answer = Answer.Moved (x .place); table = withHead (put (put t q y) p x) (headAfter (t .head) (x .place)) }
 
 unfoldable pub stepped : ProcessTable → ℕ → Reply
 stepped t p = applied t p (partnerOf (process t p)) (effectOn t p)
@@ -69,9 +72,10 @@ commitCameFirst place accepting = isAt "C" place || (isAt "HW" place && not acce
 abbrev pub givenUp : Process → Process
 givenUp x = changed x Place.Idle (x .signal) false
 
+-- CR 6: one that is answered "withdrawn" counts
 abbrev pub withdrawnOrLate : ProcessTable → ℕ → Process → Bool → Reply
 withdrawnOrLate t p x true = record { answer = Answer.TooLate; table = t }
-withdrawnOrLate t p x false = record { answer = Answer.Withdrawn; table = put t p (givenUp x) }
+withdrawnOrLate t p x false = record { answer = Answer.Withdrawn; table = withHead (put t p (givenUp x)) (withWithdrawal (t .head)) }
 
 unfoldable pub withdraw : ProcessTable → ℕ → Reply
 withdraw t p = let x = process t p in ifAccepted (withdrawVerdict t p) t (withdrawnOrLate t p x (commitCameFirst (x .place) (x .accepting)))

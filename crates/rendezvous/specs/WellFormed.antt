@@ -1,8 +1,8 @@
--- To be believed. Document 01, "What turns a call away", refusal 7, and CR 3 of document 02: it is given exactly where `wellFormed` is false.
+-- To be believed. Document 01, "What turns a call away", refusal 7, and CRs 3 and 6 of document 02: it is given exactly where `wellFormed` is false.
 use Rattle.process.specs.Rules.{partnerOf}
 use Rattle.process.specs.Fits.{processFits}
 use Rattle.rendezvous.specs.Types.{ℕ, zero, suc, Bool, true, _&&_, leb, ProcessTable}
-use Rattle.rendezvous.specs.Table.{mostProcesses, process}
+use Rattle.rendezvous.specs.Table.{mostProcesses, process, accountedFor}
 
 -- every number below n passes a test
 unfoldable pub allBelow : (ℕ → Bool) → ℕ → Bool
@@ -21,5 +21,9 @@ napFits d = leb 1 d
 unfoldable pub fitsAt : ProcessTable → ℕ → Bool
 fitsAt t p = let x = process t p in processFits (t .head .n) (t .head .nap) p x (process t (partnerOf x) .altcount)
 
+-- CR 6: not "2 × meetings + withdrawn + open above the next ticket"
+unfoldable pub totalsFit : ProcessTable → Bool
+totalsFit t = leb (accountedFor t) (t .head .next .0)
+
 unfoldable pub wellFormed : ProcessTable → Bool
-wellFormed t = countFits (t .head .n) && (napFits (t .head .nap) && allBelow (fitsAt t) (t .head .n))
+wellFormed t = countFits (t .head .n) && (napFits (t .head .nap) && (allBelow (fitsAt t) (t .head .n) && totalsFit t))

@@ -1,14 +1,16 @@
-// What each call of one process does, from what it reads of the table: whether that is well-formed, its head, the record x of process
-// p, and for a step the record y of the partner q. The calls carry it out on their table, and so does
-// who keeps a table in its place: a call by value copies it.
+// What each call of one process does, from what it reads of the table: what the form test has found of its records, its head, the
+// record x of process p, and for a step the record y of the partner q. The calls carry it out on their table, and so does who keeps a
+// table in its place: a call by value copies it. The end of the form test is here, since it is by that test that no total overflows.
 use crate::Act;
 use crate::Answer;
+use crate::Form;
 use crate::Head;
 use crate::Refusal;
 use crate::Verdict;
 use crate::refusals::offer_verdict;
 use crate::refusals::process_verdict;
 use crate::refusals::withdraw_verdict;
+use crate::well_formed::form_end;
 use alternative::GuardList;
 use alternative::blanked;
 use process::Place;
@@ -17,10 +19,10 @@ use process::Signal;
 use process::TransactionId;
 use process::guard_at;
 use process::rule;
-ghost use Prim.Native.Nat.{_≤_};
+ghost use Prim.Native.Nat.{_≤_, _<_};
 ghost use mathlib.Core.Path.{_≡_};
 ghost use mathlib.Core.Bool.{cond};
-ghost use Rattle.rendezvous.specs.Calls.{entering, commitCameFirst, givenUp};
+ghost use Rattle.rendezvous.specs.Calls.{entering, headAfter, commitCameFirst, givenUp};
 ghost use Rattle.rendezvous.specs.Acts.{alone, offerAct, stepAct, collectAct, withdrawAct};
 
 // The partner is told nothing.
@@ -58,11 +60,11 @@ fn entered(x: Process, ticket: TransactionId, list: GuardList) -> Process
     }
 }
 
-pub fn offer_act(formed: bool, head: Head, p: u8, x: Process, list: GuardList) -> Act
-    ensures { λ r. ⌜ r ≡ offerAct formed head p x list ⌝ }
+pub fn offer_act(form: Form, head: Head, p: u8, x: Process, list: GuardList) -> Act
+    ensures { λ r. ⌜ r ≡ offerAct form head p x list ⌝ }
 {
     let place = x.place;
-    match offer_verdict(formed, head, p, list, place) {
+    match offer_verdict(form_end(form, head), head, p, list, place) {
         Verdict::Refused(refusal) => alone(Answer::Refused(refusal), head, x),
         Verdict::Accepted => {
             let ticket = head.next;
@@ -85,19 +87,33 @@ fn moved_answer(moved: bool, place: Place) -> Answer
     }
 }
 
-pub fn step_act(formed: bool, head: Head, p: u8, x: Process, q: u8, y: Process) -> Act
-    ensures { λ r. ⌜ r ≡ stepAct formed head p x q y ⌝ }
+// The head after a step to this place: the commit, which tells the partner and leads to C, counts.
+fn head_after(head: Head, told: bool, place: Place) -> Head
+    requires { ⌜ head .meetings < 18446744073709551615 ⌝ }
+    ensures { λ r. ⌜ r ≡ cond told (headAfter head place) head ⌝ }
 {
-    match process_verdict(formed, head.n, p) {
+    if !(told & (place.letter() == b'C')) {
+        return head;
+    }
+    let mut after = head;
+    after.meetings = head.meetings + 1;
+    after
+}
+
+pub fn step_act(form: Form, head: Head, p: u8, x: Process, q: u8, y: Process) -> Act
+    ensures { λ r. ⌜ r ≡ stepAct form head p x q y ⌝ }
+{
+    match process_verdict(form_end(form, head), head.n, p) {
         Verdict::Refused(refusal) => alone(Answer::Refused(refusal), head, x),
         Verdict::Accepted => {
             let c = rule(head.nap, p, x, q, y);
             let own = c.own;
             let place = own.place;
             let signal = c.signal;
+            let after = head_after(head, c.told, place);
             Act {
                 answer: moved_answer(c.moved, place),
-                head: head,
+                head: after,
                 own: own,
                 told: c.told,
                 accepting: c.accepting,
@@ -107,11 +123,11 @@ pub fn step_act(formed: bool, head: Head, p: u8, x: Process, q: u8, y: Process) 
     }
 }
 
-pub fn collect_act(formed: bool, head: Head, p: u8, x: Process) -> Act
-    ensures { λ r. ⌜ r ≡ collectAct formed head p x ⌝ }
+pub fn collect_act(form: Form, head: Head, p: u8, x: Process) -> Act
+    ensures { λ r. ⌜ r ≡ collectAct form head p x ⌝ }
 {
     let place = x.place;
-    match process_verdict(formed, head.n, p) {
+    match process_verdict(form_end(form, head), head.n, p) {
         Verdict::Refused(refusal) => alone(Answer::Refused(refusal), head, x),
         Verdict::Accepted => match place.outcome() {
             Signal::Absent => alone(Answer::Refused(Refusal::NotMet), head, x),
@@ -141,17 +157,19 @@ fn given_up(x: Process) -> Process
     x.told(false, signal).at_place(Place::Idle)
 }
 
-pub fn withdraw_act(formed: bool, head: Head, p: u8, x: Process) -> Act
-    ensures { λ r. ⌜ r ≡ withdrawAct formed head p x ⌝ }
+pub fn withdraw_act(form: Form, head: Head, p: u8, x: Process) -> Act
+    ensures { λ r. ⌜ r ≡ withdrawAct form head p x ⌝ }
 {
     let place = x.place;
-    match withdraw_verdict(formed, head.n, p, place) {
+    match withdraw_verdict(form_end(form, head), head.n, p, place) {
         Verdict::Refused(refusal) => alone(Answer::Refused(refusal), head, x),
         Verdict::Accepted => {
             if commit_came_first(place, x.accepting) {
                 alone(Answer::TooLate, head, x)
             } else {
-                alone(Answer::Withdrawn, head, given_up(x))
+                let mut after = head;
+                after.withdrawn = head.withdrawn + 1;
+                alone(Answer::Withdrawn, after, given_up(x))
             }
         }
     }

@@ -3,7 +3,6 @@ use crate::MOST_PROCESSES;
 use crate::ProcessTable;
 use crate::Reply;
 use crate::acts::collect_act;
-use crate::well_formed::form_end;
 use crate::well_formed::form_more;
 use crate::well_formed::form_start;
 ghost use mathlib.Core.Path.{_≡_};
@@ -26,10 +25,9 @@ impl ProcessTable {
             form = form_more(form, head, k, z, posted);
             k = k + 1;
         }
-        let formed = form_end(form, head);
         let i = (p % MOST_PROCESSES) as usize;
         let x = t.processes[i];
-        let act = collect_act(formed, head, p, x);
+        let act = collect_act(form, head, p, x);
         let own = act.own;
         let after = act.head;
         let answer = act.answer;

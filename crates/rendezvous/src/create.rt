@@ -20,6 +20,8 @@ pub fn fresh_head(n: u8, nap: u8) -> Head
         n: n,
         nap: nap,
         next: TransactionId(0),
+        meetings: 0,
+        withdrawn: 0,
     }
 }
 

@@ -5,7 +5,7 @@ use process::Process;
 use process::Signal;
 use process::TransactionId;
 ghost use Rattle.rendezvous.specs.Forms.{FormsAreWellFormed};
-ghost use Rattle.rendezvous.specs.Acts.{ActsAreCalls};
+ghost use Rattle.rendezvous.specs.Acts.{AllActsAreCalls};
 ghost use Rattle.rendezvous.specs.Movers.{MoversChange};
 ghost use Rattle.rendezvous.specs.Withdrawals.{WithdrawsOpen};
 ghost use Rattle.rendezvous.specs.WithoutRanks.{CallsWithoutRanks};
@@ -37,11 +37,14 @@ pub const MOST_PROCESSES: u8 = 32;
 
 pub const LAST_TRANSACTION: u32 = 4294967295;
 
-// What a table holds beside its records: the number of processes, how many own steps a nap takes, and the next ticket.
+// What a table holds beside its records: the number of processes, how many own steps a nap takes, the next ticket, and the totals of the
+// day sheet, how many rendezvous were committed and how many offers withdrawn.
 pub struct Head {
     pub n: u8,
     pub nap: u8,
     pub next: TransactionId,
+    pub meetings: u64,
+    pub withdrawn: u64,
 }
 
 // Document 01's desk: its head, and a record for each process.
@@ -53,9 +56,11 @@ pub struct ProcessTable {
 // A set of processes: bit p for process p.
 pub type ProcessSet = u32;
 
-// What is known of a table's form where some of its records are tested: whether its head and these fit.
+// What is known of a table's form where some of its records are tested: whether its head and these fit, and how many of the tickets
+// given out their open offers have left.
 pub struct Form {
     pub fits: bool,
+    pub left: u32,
 }
 
 // Why a call is turned away. The definition `refusalNumber` gives the documents' number of each.
@@ -124,7 +129,7 @@ pub fn forms_are_well_formed()
 
 // Carries the claim that an act, carried out on the table that was read, is the call.
 pub fn acts_are_calls()
-    ensures { λ _. ⌜ ActsAreCalls ⌝ }
+    ensures { λ _. ⌜ AllActsAreCalls ⌝ }
 {}
 
 // Carries the claim that a withdrawal is answered "withdrawn" exactly where an offer is open, and that it is open no more.

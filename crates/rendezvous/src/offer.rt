@@ -3,7 +3,6 @@ use crate::MOST_PROCESSES;
 use crate::ProcessTable;
 use crate::Reply;
 use crate::acts::offer_act;
-use crate::well_formed::form_end;
 use crate::well_formed::form_more;
 use crate::well_formed::form_start;
 use alternative::GuardList;
@@ -27,10 +26,9 @@ impl ProcessTable {
             form = form_more(form, head, k, z, posted);
             k = k + 1;
         }
-        let formed = form_end(form, head);
         let i = (p % MOST_PROCESSES) as usize;
         let x = t.processes[i];
-        let act = offer_act(formed, head, p, x, list);
+        let act = offer_act(form, head, p, x, list);
         let own = act.own;
         let after = act.head;
         let answer = act.answer;

@@ -3,7 +3,6 @@ use crate::MOST_PROCESSES;
 use crate::ProcessTable;
 use crate::Reply;
 use crate::acts::step_act;
-use crate::well_formed::form_end;
 use crate::well_formed::form_more;
 use crate::well_formed::form_start;
 ghost use mathlib.Core.Path.{_≡_};
@@ -26,13 +25,12 @@ impl ProcessTable {
             form = form_more(form, head, k, z, posted);
             k = k + 1;
         }
-        let formed = form_end(form, head);
         let i = (p % MOST_PROCESSES) as usize;
         let x = t.processes[i];
         let q = x.partner();
         let j = (q % MOST_PROCESSES) as usize;
         let y = t.processes[j];
-        let act = step_act(formed, head, p, x, q, y);
+        let act = step_act(form, head, p, x, q, y);
         if act.told {
             // Read anew: y would be held, and so copied, across the rule.
             let partner = t.processes[j];

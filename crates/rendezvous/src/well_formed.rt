@@ -6,8 +6,13 @@ use crate::ProcessTable;
 use process::Process;
 use process::process_fits;
 ghost use mathlib.Core.Path.{_≡_};
-ghost use Rattle.rendezvous.specs.WellFormed.{countFits, napFits, wellFormed};
+ghost use Prim.Native.Nat.{_*_, _+_};
+ghost use mathlib.Core.Bool.{cond};
+ghost use lib.Dec.{leb};
+ghost use Rattle.process.specs.Process.{isOpen};
+ghost use Rattle.rendezvous.specs.WellFormed.{countFits, napFits};
 ghost use Rattle.rendezvous.specs.Forms.{formStart, formMore, formEnd};
+ghost use Rattle.rendezvous.specs.Acts.{FormOf};
 
 pub fn count_fits(n: u8) -> bool
     ensures { λ r. ⌜ r ≡ countFits n ⌝ }
@@ -25,9 +30,19 @@ pub fn nap_fits(nap: u8) -> bool
 pub fn form_start(head: Head) -> Form
     ensures { λ r. ⌜ r ≡ formStart head ⌝ }
 {
+    let next = head.next;
     Form {
         fits: count_fits(head.n) & nap_fits(head.nap),
+        left: next.0,
     }
+}
+
+// How many open offers a process has.
+fn open_offers(x: Process) -> u32
+    ensures { λ r. ⌜ r ≡ cond (isOpen x) 1 0 ⌝ }
+{
+    let place = x.place;
+    if place.is_open(x.accepting) { 1 } else { 0 }
 }
 
 // It goes on with process k; the process that its guard names at C has posted so many. (Where it names none below n, it does not fit, whatever is read.)
@@ -35,23 +50,42 @@ pub fn form_more(form: Form, head: Head, k: u8, x: Process, posted: u8) -> Form
     ensures { λ r. ⌜ r ≡ formMore form head k x posted ⌝ }
 {
     let fits = process_fits(head.n, head.nap, k, x, posted);
+    let open = open_offers(x);
+    if form.left < open {
+        return Form {
+            fits: false,
+            left: 0,
+        };
+    }
     Form {
         fits: form.fits & fits,
+        left: form.left - open,
     }
+}
+
+// Whether 2 × meetings + withdrawn is at most `left`: by differences, since 64 bits do not hold every such sum.
+fn totals_fit(meetings: u64, withdrawn: u64, left: u32) -> bool
+    ensures { λ r. ⌜ r ≡ leb (2 * meetings + withdrawn) left ⌝ }
+{
+    let left = left as u64;
+    if left / 2 < meetings {
+        return false;
+    }
+    withdrawn <= left - 2 * meetings
 }
 
 // It ends once every process is tested.
 pub fn form_end(form: Form, head: Head) -> bool
     ensures { λ r. ⌜ r ≡ formEnd form head ⌝ }
 {
-    form.fits
+    form.fits & totals_fit(head.meetings, head.withdrawn, form.left)
 }
 
 impl ProcessTable {
-    // A call that must be quick has this loop written out, and makes its reply at one place: a use of the table as a parameter, or a second
-    // place, would be one or two more copies of it.
-    pub fn well_formed(self) -> bool
-        ensures { λ r. ⌜ r ≡ wellFormed self ⌝ }
+    // What the test finds of the whole table. A call that must be quick has this loop written out, and makes its reply at one place: a use
+    // of the table as a parameter, or a second place, would be one or two more copies of it.
+    pub fn form(self) -> Form
+        ensures { λ r. ⌜ FormOf self r ⌝ }
     {
         let head = self.head;
         let mut form = form_start(head);
@@ -64,6 +98,6 @@ impl ProcessTable {
             form = form_more(form, head, k, z, posted);
             k = k + 1;
         }
-        form_end(form, head)
+        form
     }
 }

@@ -12,11 +12,11 @@ impl ProcessTable {
         ensures { λ r. ⌜ r ≡ withdraw self p ⌝ }
     {
         let mut t = self;
-        let formed = t.well_formed();
+        let form = t.form();
         let head = t.head;
         let i = (p % MOST_PROCESSES) as usize;
         let x = t.processes[i];
-        let act = withdraw_act(formed, head, p, x);
+        let act = withdraw_act(form, head, p, x);
         let own = act.own;
         let after = act.head;
         let answer = act.answer;

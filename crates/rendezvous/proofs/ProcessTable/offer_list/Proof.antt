@@ -2,7 +2,7 @@ use Prim.Native.Nat.{_≤_, _-_}
 use native.Mathlib.Omega.{arith}
 use borrow.Author.Needs.{needs}
 use Rattle.rendezvous.proofs.Done.{offer-written}
-use Rattle.rendezvous.proofs.Forms.{FormAt, form-start, form-more, form-end}
+use Rattle.rendezvous.proofs.Forms.{FormAt, form-start, form-more, form-of}
 use Rattle.rendezvous.proofs.ProcessTable.offer_list.Statement.{statement}
 use Rattle.rendezvous.proofs.ProcessTable.offer_list.Tie as tie
 
@@ -25,9 +25,9 @@ loop-again c =
 returns : tie.Need-returns Inv-loop μ-loop
 returns c =
     let s = c .before .before in
-    let l = s .before .before .before .before .before in
-    let formed = form-end _ (l .loop .k) _ _ (omega arith) (l .loop .inv .1) (s .before .before .form-end .ensures) in
-    offer-written _ _ _ formed _ _ (s .offer-act .ensures)
+    let l = s .before .before .before .before in
+    let form = form-of _ (l .loop .k) _ (omega arith) (l .loop .inv .1) in
+    offer-written _ _ _ form _ _ (s .offer-act .ensures)
 
 pub offer-list-spec : {M : Type 1} → statement M
 offer-list-spec =
@@ -48,7 +48,6 @@ offer-list-spec =
     (λ c. omega arith)
     (λ c. omega arith)
     loop-again
-    (λ c κs. search needs)
     (λ c. omega arith)
     (λ c. omega arith)
     (λ c. omega arith)

@@ -5,7 +5,7 @@ use borrow.Author.Needs.{needs}
 use Rattle.process.specs.Rules.{changes}
 use Rattle.rendezvous.specs.Table.{mostProcesses}
 use Rattle.rendezvous.specs.Calls.{effectOn}
-use Rattle.rendezvous.proofs.Forms.{FormAt, form-start, form-more, form-end, formed-most}
+use Rattle.rendezvous.proofs.Forms.{FormAt, form-start, form-more, form-of, formed-most}
 use Rattle.rendezvous.proofs.Steps.{member-read}
 use Rattle.rendezvous.proofs.Sets.{bit-most, Above, above-start, above-more, above-end, above-fits, runnable-gives, runnable-refused}
 use Rattle.rendezvous.proofs.ProcessTable.runnable.Statement.{statement}
@@ -37,7 +37,7 @@ loop-again c =
 loop2-holds : tie.Need-loop2-holds Inv-loop μ-loop Inv-loop2 μ-loop2
 loop2-holds c =
     let l = c .before .before .before .before in
-    let formed = sym (form-end _ (l .loop .k) _ _ (omega arith) (l .loop .inv .1) (c .before .form-end .ensures)) ∙ c .if2 .taken in
+    let formed = sym (c .before .form-end .ensures ∙ form-of _ (l .loop .k) _ (omega arith) (l .loop .inv .1)) ∙ c .if2 .taken in
     (omega arith, formed-most _ formed, above-start _ _)
 
 mul-set : tie.Need-mul-set Inv-loop μ-loop Inv-loop2 μ-loop2
@@ -56,7 +56,7 @@ loop2-again c =
     let m = w .before .before .before .before .before in
     let e = m .before .before in
     let l = e .before .before .before in
-    let formed = sym (form-end _ (l .loop .k) _ _ (omega arith) (l .loop .inv .1) (e .form-end .ensures)) ∙ m .before .if2 .taken in
+    let formed = sym (e .form-end .ensures ∙ form-of _ (l .loop .k) _ (omega arith) (l .loop .inv .1)) ∙ m .before .if2 .taken in
     let member = member-read _ (m .loop2 .p - 1) _ _ formed (omega arith) (w .before .before .partner .ensures) (w .would-change .ensures) in
     (omega arith, m .loop2 .inv .1, above-more _ _ (m .loop2 .p - 1) (m .loop2 .p) _ _ _ (omega arith) member (c .lowest .ensures) (m .loop2 .inv .2))
 
@@ -65,13 +65,13 @@ returns c =
     let m = c .before in
     let e = m .before .before in
     let l = e .before .before .before in
-    let formed = sym (form-end _ (l .loop .k) _ _ (omega arith) (l .loop .inv .1) (e .form-end .ensures)) ∙ m .before .if2 .taken in
+    let formed = sym (e .form-end .ensures ∙ form-of _ (l .loop .k) _ (omega arith) (l .loop .inv .1)) ∙ m .before .if2 .taken in
     runnable-gives _ _ formed (above-end _ _ _ _ (omega arith) (m .loop2 .inv .2))
 
 returns-2 : tie.Need-returns-2 Inv-loop μ-loop Inv-loop2 μ-loop2
 returns-2 c =
     let l = c .before .before .before .before in
-    runnable-refused _ (sym (form-end _ (l .loop .k) _ _ (omega arith) (l .loop .inv .1) (c .before .form-end .ensures)) ∙ c .if2 .left)
+    runnable-refused _ (sym (c .before .form-end .ensures ∙ form-of _ (l .loop .k) _ (omega arith) (l .loop .inv .1)) ∙ c .if2 .left)
 
 pub runnable-spec : {M : Type 1} → statement M
 runnable-spec =

@@ -4,7 +4,7 @@ use mathlib.Core.Path.{_∙_}
 use native.Mathlib.Omega.{arith}
 use borrow.Author.Needs.{needs}
 use Rattle.rendezvous.proofs.Done.{done-both, done-own, step-done}
-use Rattle.rendezvous.proofs.Forms.{FormAt, form-start, form-more, form-end}
+use Rattle.rendezvous.proofs.Forms.{FormAt, form-start, form-more, form-of}
 use Rattle.rendezvous.proofs.ProcessTable.step.Statement.{statement}
 use Rattle.rendezvous.proofs.ProcessTable.step.Tie as tie
 
@@ -27,9 +27,9 @@ loop-again c =
 returns : tie.Need-returns Inv-loop μ-loop
 returns c =
     let s = c .before .before .before in
-    let l = s .before .before .before .before .before .before .before in
-    let formed = form-end _ (l .loop .k) _ _ (omega arith) (l .loop .inv .1) (s .before .before .before .before .form-end .ensures) in
-    let does = step-done _ _ _ formed _ _ (s .before .before .partner .ensures) (s .step-act .ensures) in
+    let l = s .before .before .before .before .before .before in
+    let form = form-of _ (l .loop .k) _ (omega arith) (l .loop .inv .1) in
+    let does = step-done _ _ _ form _ _ (s .before .before .partner .ensures) (s .step-act .ensures) in
     ⊎-elim
     (λ a. done-both _ _ _ _ _ _ (a .0 .taken) (a .2 .ensures) (a .3) ∙ does)
     (λ a. done-own _ _ _ _ _ (a .0 .left) (a .1) ∙ does)
@@ -54,7 +54,6 @@ step-spec =
     (λ c. omega arith)
     (λ c. omega arith)
     loop-again
-    (λ c κs. search needs)
     (λ c. omega arith)
     (λ c. omega arith)
     (λ c. omega arith)

@@ -7,7 +7,7 @@ use Rattle.rendezvous.proofs.ProcessTable.withdraw.Tie as tie
 returns : tie.Need-returns
 returns c =
     let a = c .before .before in
-    withdraw-written _ _ _ (a .before .before .before .well-formed .ensures) _ (a .withdraw-act .ensures)
+    withdraw-written _ _ _ (a .before .before .before .form .ensures) _ (a .withdraw-act .ensures)
 
 pub withdraw-spec : {M : Type 1} → statement M
 withdraw-spec =

@@ -1,9 +1,9 @@
 use Prim.Native.Nat.{_≤_, _-_}
 use native.Mathlib.Omega.{arith}
 use borrow.Author.Needs.{needs}
-use Rattle.rendezvous.proofs.Forms.{FormAt, form-start, form-more, form-end}
-use Rattle.rendezvous.proofs.ProcessTable.well_formed.Statement.{statement}
-use Rattle.rendezvous.proofs.ProcessTable.well_formed.Tie as tie
+use Rattle.rendezvous.proofs.Forms.{FormAt, form-start, form-more, form-of}
+use Rattle.rendezvous.proofs.ProcessTable.form.Statement.{statement}
+use Rattle.rendezvous.proofs.ProcessTable.form.Tie as tie
 
 abbrev Inv-loop : tie.InvT-loop
 Inv-loop self head form₀ k₀ form k = (k ≤ head .n) × FormAt self k form
@@ -22,10 +22,10 @@ loop-again c =
     )
 
 returns : tie.Need-returns Inv-loop μ-loop
-returns c = let l = c .before .before .before in form-end _ (l .loop .k) _ _ (omega arith) (l .loop .inv .1) (c .form-end .ensures)
+returns c = let l = c .before .before in form-of _ (l .loop .k) _ (omega arith) (l .loop .inv .1)
 
-pub well-formed-spec : {M : Type 1} → statement M
-well-formed-spec =
+pub form-spec : {M : Type 1} → statement M
+form-spec =
     tie.close
     (tie.spec
     Inv-loop
@@ -43,5 +43,4 @@ well-formed-spec =
     (λ c. omega arith)
     (λ c. omega arith)
     loop-again
-    (λ c κs. search needs)
     returns)
