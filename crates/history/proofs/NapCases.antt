@@ -15,8 +15,8 @@ use Rattle.process.specs.Process.{freshProcess}
 use Rattle.process.specs.Rules.{scanFrom, handOver, rule}
 use Rattle.process.specs.Fits.{allGuards, partnerFits, listFits, processFits}
 use Rattle.rendezvous.specs.declared.{ProcessTable.ProcessTable, Verdict.Verdict, Reply.Reply}
-use Rattle.rendezvous.specs.Table.{process, freshTable}
-use Rattle.rendezvous.specs.WellFormed.{allBelow, countFits, napFits, fitsAt, wellFormed}
+use Rattle.rendezvous.specs.Table.{process, freshTable, countBelow}
+use Rattle.rendezvous.specs.WellFormed.{allBelow, countFits, napFits, fitsAt, totalsFit, wellFormed}
 use Rattle.rendezvous.specs.Refusals.{requireGuards, createVerdict, tableVerdict, processVerdict, listVerdict, stateVerdict, offerTests, offerVerdict, withdrawVerdict}
 use Rattle.rendezvous.specs.Calls.{ifAccepted, create, entering, offered, offerList, effectOn, stepped, step, collect, withdraw}
 use Rattle.rendezvous.specs.Movers.{setBelow, runnableSet, runnable}
@@ -28,7 +28,7 @@ use Rattle.history.specs.NapCases.{withNap, crossing, crossingCalls, sto
 
 -- the computation, before all that rests on lemmas: with a definition under which a case comes out otherwise it fails first
 stories-hold : Hold stories
-unfolding guardsMatch anyGuard firstFrom outranked keptMatch nextEnabled slots lent scanFrom handOver rule allGuards allBelow countFits napFits partnerFits listFits processFits fitsAt wellFormed requireGuards createVerdict tableVerdict processVerdict listVerdict stateVerdict offerVerdict withdrawVerdict create entering offered offerList effectOn stepped step collect withdraw setBelow runnableSet runnable replyTo afterAll replyToCommand allSaid stories flatten ofBits lib.Ieee.isNan
+unfolding guardsMatch anyGuard firstFrom outranked keptMatch nextEnabled slots lent scanFrom handOver rule allGuards allBelow countFits napFits partnerFits listFits processFits fitsAt totalsFit countBelow wellFormed requireGuards createVerdict tableVerdict processVerdict listVerdict stateVerdict offerVerdict withdrawVerdict create entering offered offerList effectOn stepped step collect withdraw setBelow runnableSet runnable replyTo afterAll replyToCommand allSaid stories flatten ofBits lib.Ieee.isNan
 stories-hold = refl
 
 -- a step of a well-formed table is the rule's
@@ -43,11 +43,11 @@ taken t p formed below = ap (λ (r : Reply). r .table) (whole t p formed below)
 -- one turn of an endless order, step by step: process 1 goes to S, makes its early steps there, and leaves it at the d-th; process 0 finds it at A again
 module _ (d : ℕ) (naps : 1 ≤ d) where
   formed-at-a : wellFormed (crossing d (Place.Scanning 0)) ≡ true
-  unfolding slots allGuards allBelow countFits napFits partnerFits listFits processFits fitsAt wellFormed
+  unfolding slots allGuards allBelow countFits napFits partnerFits listFits processFits fitsAt totalsFit countBelow wellFormed
   formed-at-a = rw (le-leb 1 d naps)
 
   formed-at-s : (s : ℕ) → s < d → wellFormed (crossing d (Place.Asleep s)) ≡ true
-  unfolding slots allGuards allBelow countFits napFits partnerFits listFits processFits fitsAt wellFormed
+  unfolding slots allGuards allBelow countFits napFits partnerFits listFits processFits fitsAt totalsFit countBelow wellFormed
   formed-at-s s h = rw (le-leb 1 d naps, lt-ltb s d h)
 
   falls : tableAfter (crossing d (Place.Scanning 0)) (Step 1) ≡ crossing d (Place.Asleep 0)
@@ -96,19 +96,19 @@ admitted t p gs formed passes = ap (λ (r : Reply). r .table) (whole-offer (well
 
 module _ (d : ℕ) (naps : 1 ≤ d) where
   fresh-formed : wellFormed (freshTable 2 d) ≡ true
-  unfolding allGuards allBelow countFits napFits listFits processFits fitsAt wellFormed
+  unfolding allGuards allBelow countFits napFits listFits processFits fitsAt totalsFit countBelow wellFormed
   fresh-formed = rw (le-leb 1 d naps)
 
   one-formed : wellFormed (stage d 1 (first Place.Entering) freshProcess) ≡ true
-  unfolding slots allGuards allBelow countFits napFits partnerFits listFits processFits fitsAt wellFormed
+  unfolding slots allGuards allBelow countFits napFits partnerFits listFits processFits fitsAt totalsFit countBelow wellFormed
   one-formed = rw (le-leb 1 d naps)
 
   two-formed : wellFormed (stage d 2 (first Place.Entering) (second Place.Entering)) ≡ true
-  unfolding slots allGuards allBelow countFits napFits partnerFits listFits processFits fitsAt wellFormed
+  unfolding slots allGuards allBelow countFits napFits partnerFits listFits processFits fitsAt totalsFit countBelow wellFormed
   two-formed = rw (le-leb 1 d naps)
 
   three-formed : wellFormed (stage d 2 (first (Place.Scanning 0)) (second Place.Entering)) ≡ true
-  unfolding slots allGuards allBelow countFits napFits partnerFits listFits processFits fitsAt wellFormed
+  unfolding slots allGuards allBelow countFits napFits partnerFits listFits processFits fitsAt totalsFit countBelow wellFormed
   three-formed = rw (le-leb 1 d naps)
 
   first-offers : tableAfter (freshTable 2 d) (Offer 0 (send 1 0x40970a3d ∷ [])) ≡ stage d 1 (first Place.Entering) freshProcess
@@ -136,5 +136,5 @@ module _ (d : ℕ) (naps : 1 ≤ d) where
       ∙ second-enters
 
 pub nap-cases-hold : NapCases
-unfolding guardsMatch anyGuard offersMatch firstFrom outranked keptMatch nextEnabled slots lent scanFrom handOver rule allGuards allBelow countFits napFits partnerFits listFits processFits fitsAt wellFormed requireGuards createVerdict tableVerdict processVerdict listVerdict stateVerdict offerVerdict withdrawVerdict create entering offered offerList effectOn stepped step collect withdraw setBelow runnableSet runnable replyTo afterAll replyToCommand allSaid stories flatten ofBits lib.Ieee.isNan
+unfolding guardsMatch anyGuard offersMatch firstFrom outranked keptMatch nextEnabled slots lent scanFrom handOver rule allGuards allBelow countFits napFits partnerFits listFits processFits fitsAt totalsFit countBelow wellFormed requireGuards createVerdict tableVerdict processVerdict listVerdict stateVerdict offerVerdict withdrawVerdict create entering offered offerList effectOn stepped step collect withdraw setBelow runnableSet runnable replyTo afterAll replyToCommand allSaid stories flatten ofBits lib.Ieee.isNan
 nap-cases-hold = record { cases = stories-hold; counts = refl; begins = refl; matching = λ d. refl; reached = reached; endless = endless }

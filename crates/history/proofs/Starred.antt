@@ -4,7 +4,8 @@ use lib.Ieee.{ofBits}
 use Rattle.alternative.specs.Guards.{guardsMatch, anyGuard, firstFrom, outranked, keptMatch, nextEnabled, slots, lent}
 use Rattle.process.specs.Rules.{scanFrom, handOver, rule}
 use Rattle.process.specs.Fits.{allGuards, partnerFits, listFits, processFits}
-use Rattle.rendezvous.specs.WellFormed.{allBelow, countFits, napFits, fitsAt, wellFormed}
+use Rattle.rendezvous.specs.Table.{countBelow}
+use Rattle.rendezvous.specs.WellFormed.{allBelow, countFits, napFits, fitsAt, totalsFit, wellFormed}
 use Rattle.rendezvous.specs.Refusals.{requireGuards, createVerdict, tableVerdict, processVerdict, listVerdict, stateVerdict, offerVerdict}
 use Rattle.rendezvous.specs.Calls.{create, entering, offered, offerList, effectOn, stepped, step, collect}
 use Rattle.rendezvous.specs.Movers.{setBelow, runnableSet, runnable}
@@ -13,5 +14,5 @@ use Rattle.rendezvous.specs.Commands.{replyToCommand}
 use Rattle.history.specs.Cases.{allSaid, starred, Starred}
 
 pub starred-hold : Starred
-unfolding guardsMatch anyGuard firstFrom outranked keptMatch nextEnabled slots lent scanFrom handOver rule allGuards allBelow countFits napFits partnerFits listFits processFits fitsAt wellFormed requireGuards createVerdict tableVerdict processVerdict listVerdict stateVerdict offerVerdict create entering offered offerList effectOn stepped step collect setBelow runnableSet runnable replyTo replyToCommand allSaid starred ofBits lib.Ieee.isNan
+unfolding guardsMatch anyGuard firstFrom outranked keptMatch nextEnabled slots lent scanFrom handOver rule allGuards allBelow countFits napFits partnerFits listFits processFits fitsAt totalsFit countBelow wellFormed requireGuards createVerdict tableVerdict processVerdict listVerdict stateVerdict offerVerdict create entering offered offerList effectOn stepped step collect setBelow runnableSet runnable replyTo replyToCommand allSaid starred ofBits lib.Ieee.isNan
 starred-hold = refl

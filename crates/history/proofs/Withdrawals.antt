@@ -4,7 +4,8 @@ use lib.Ieee.{ofBits}
 use Rattle.alternative.specs.Guards.{guardsMatch, anyGuard, firstFrom, outranked, keptMatch, nextEnabled, slots, lent}
 use Rattle.process.specs.Rules.{scanFrom, handOver, rule}
 use Rattle.process.specs.Fits.{allGuards, partnerFits, listFits, processFits}
-use Rattle.rendezvous.specs.WellFormed.{allBelow, countFits, napFits, fitsAt, wellFormed}
+use Rattle.rendezvous.specs.Table.{countBelow}
+use Rattle.rendezvous.specs.WellFormed.{allBelow, countFits, napFits, fitsAt, totalsFit, wellFormed}
 use Rattle.rendezvous.specs.Refusals.{requireGuards, createVerdict, tableVerdict, processVerdict, listVerdict, stateVerdict, offerVerdict, withdrawVerdict}
 use Rattle.rendezvous.specs.Calls.{create, entering, offered, offerList, effectOn, stepped, step, collect, withdraw}
 use Rattle.rendezvous.specs.Movers.{setBelow, runnableSet, runnable}
@@ -16,5 +17,5 @@ use Rattle.history.specs.Cases.{allSaid}
 use Rattle.history.specs.Withdrawals.{everywhere, stories, Withdrawals}
 
 pub withdrawals-hold : Withdrawals
-unfolding guardsMatch anyGuard firstFrom outranked keptMatch nextEnabled slots lent scanFrom handOver rule allGuards allBelow countFits napFits partnerFits listFits processFits fitsAt wellFormed requireGuards createVerdict tableVerdict processVerdict listVerdict stateVerdict offerVerdict withdrawVerdict create entering offered offerList effectOn stepped step collect withdraw setBelow runnableSet runnable replyTo withRendezvous committing enter bookAfterAll madeByAll replyToCommand allSaid everywhere stories ofBits lib.Ieee.isNan
+unfolding guardsMatch anyGuard firstFrom outranked keptMatch nextEnabled slots lent scanFrom handOver rule allGuards allBelow countFits napFits partnerFits listFits processFits fitsAt totalsFit countBelow wellFormed requireGuards createVerdict tableVerdict processVerdict listVerdict stateVerdict offerVerdict withdrawVerdict create entering offered offerList effectOn stepped step collect withdraw setBelow runnableSet runnable replyTo withRendezvous committing enter bookAfterAll madeByAll replyToCommand allSaid everywhere stories ofBits lib.Ieee.isNan
 withdrawals-hold = record { places = refl; cases = refl; leaves = (refl, refl); stays = (refl, refl); made-run = refl; book-run = refl; tickets = refl }

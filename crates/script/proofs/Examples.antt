@@ -5,7 +5,8 @@ use lib.Ieee.{ofBits, toBits}
 use Rattle.alternative.specs.Guards.{guardsMatch, anyGuard, firstFrom, outranked, keptMatch, nextEnabled, slots, lent}
 use Rattle.process.specs.Rules.{scanFrom, handOver, rule}
 use Rattle.process.specs.Fits.{allGuards, partnerFits, listFits, processFits}
-use Rattle.rendezvous.specs.WellFormed.{allBelow, countFits, napFits, fitsAt, wellFormed}
+use Rattle.rendezvous.specs.Table.{countBelow}
+use Rattle.rendezvous.specs.WellFormed.{allBelow, countFits, napFits, fitsAt, totalsFit, wellFormed}
 use Rattle.rendezvous.specs.Refusals.{requireGuards, createVerdict, tableVerdict, processVerdict, listVerdict, stateVerdict, offerVerdict, withdrawVerdict}
 use Rattle.rendezvous.specs.Calls.{create, entering, offered, offerList, effectOn, stepped, step, collect, withdraw}
 use Rattle.rendezvous.specs.Movers.{setBelow, runnableSet, runnable}
@@ -23,5 +24,5 @@ use Rattle.script.specs.Session.{replyFrom, answered, turn, printedBy, o
 use Rattle.script.specs.Examples.{offerLine, MarkedSession, CarriedMessages, MalformedLines, ClosedSlots, TwoSensors, Naps, AlarmFirst}
 
 pub examples-hold : MarkedSession × CarriedMessages × MalformedLines × ClosedSlots × TwoSensors × Naps × AlarmFirst
-unfolding guardsMatch anyGuard firstFrom outranked keptMatch nextEnabled slots lent scanFrom handOver rule allGuards allBelow countFits napFits partnerFits listFits processFits fitsAt wellFormed requireGuards createVerdict tableVerdict processVerdict listVerdict stateVerdict offerVerdict withdrawVerdict create entering offered offerList effectOn stepped step collect withdraw setBelow runnableSet runnable replyTo replyToCommand placeFrom hexDigit hexGlyph decimalFrom decimal byteNumber whole hexFrom hexWord decimalUpTo wholeText hexUpTo fields wholeIn readingIn limitIn messageBy messageIn sendIn actionBy actionIn leading guardFrom plainGuardIn markedIn kindedGuardIn guardIn guardsIn numberIn napIn newIn offerIn numbered byLetter commandIn commandOf messageText answerText linesFrom lineCommand replyFrom answered turn printedBy output bytes offerLine flatten ofBits toBits lib.Ieee.isNan
+unfolding guardsMatch anyGuard firstFrom outranked keptMatch nextEnabled slots lent scanFrom handOver rule allGuards allBelow countFits napFits partnerFits listFits processFits fitsAt totalsFit countBelow wellFormed requireGuards createVerdict tableVerdict processVerdict listVerdict stateVerdict offerVerdict withdrawVerdict create entering offered offerList effectOn stepped step collect withdraw setBelow runnableSet runnable replyTo replyToCommand placeFrom hexDigit hexGlyph decimalFrom decimal byteNumber whole hexFrom hexWord decimalUpTo wholeText hexUpTo fields wholeIn readingIn limitIn messageBy messageIn sendIn actionBy actionIn leading guardFrom plainGuardIn markedIn kindedGuardIn guardIn guardsIn numberIn napIn newIn offerIn numbered byLetter commandIn commandOf messageText answerText linesFrom lineCommand replyFrom answered turn printedBy output bytes offerLine flatten ofBits toBits lib.Ieee.isNan
 examples-hold = (refl, refl, refl, refl, refl, refl, refl)

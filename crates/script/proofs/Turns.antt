@@ -15,16 +15,16 @@ use Rattle.command.specs.InCode.{asParsed}
 use Rattle.process.specs.Rules.{Effect, Neither, Own, Both, partnerOf}
 use Rattle.process.proofs.PlaceCases.{if-met}
 use Rattle.rendezvous.specs.declared.Act.{Act}
+use Rattle.rendezvous.specs.declared.Form.{Form}
 use Rattle.rendezvous.specs.declared.Verdict.{Verdict}
 use Rattle.rendezvous.specs.Table.{mostProcesses, process}
-use Rattle.rendezvous.specs.WellFormed.{wellFormed}
 use Rattle.rendezvous.specs.Refusals.{offerVerdict, processVerdict, tableVerdict, withdrawVerdict}
 use Rattle.rendezvous.specs.Numbers.{said}
 use Rattle.rendezvous.specs.Calls.{ifAccepted, create, offered, offerList, effectOn, applied, stepped, step, collect, commitCameFirst, withdrawnOrLate, withdraw}
 use Rattle.rendezvous.specs.Movers.{runnable, runnableSet}
 use Rattle.rendezvous.specs.Run.{Call, replyTo}
 use Rattle.rendezvous.specs.Commands.{replyToCommand}
-use Rattle.rendezvous.specs.Acts.{done}
+use Rattle.rendezvous.specs.Acts.{done, FormOf}
 use Rattle.script.specs.Types.{GuardList, ProcessTable, Answer, Reply, Offer, Step, Collect, Withdraw, Command, New, Do, Movers}
 use Rattle.script.specs.Printing.{commandText}
 use Rattle.script.specs.Lines.{Ended, lineCommand}
@@ -83,16 +83,16 @@ calledBy t Verb.New n list = record { answer = Answer.Unchanged; table = t }
 calledBy t Verb.Movers n list = record { answer = Answer.Unchanged; table = t }
 
 -- .. is what a line's act does, carried out where it was read
-pub line-done : (t : ProcessTable) (k : Verb) (p : ℕ) (list : GuardList) (formed : Bool) (q : ℕ) (act : Act) → formed ≡ wellFormed t → q ≡ partnerOf (process t (p % mostProcesses))
-    → act ≡ lineAct k p list formed (t .head) (process t (p % mostProcesses)) q (process t (q % mostProcesses)) → done t (p % mostProcesses) (q % mostProcesses) act ≡ calledBy t k p list
+pub line-done : (t : ProcessTable) (k : Verb) (p : ℕ) (list : GuardList) (form : Form) (q : ℕ) (act : Act) → FormOf t form → q ≡ partnerOf (process t (p % mostProcesses))
+    → act ≡ lineAct k p list form (t .head) (process t (p % mostProcesses)) q (process t (q % mostProcesses)) → done t (p % mostProcesses) (q % mostProcesses) act ≡ calledBy t k p list
 unfolding lineAct
-line-done t Verb.Offer p list formed q act form named e = offer-done t p formed form act list (q % mostProcesses) e
-line-done t Verb.Step p list formed q act form named e = step-done t p formed form act q named e
-line-done t Verb.Collect p list formed q act form named e = collect-done t p formed form act (q % mostProcesses) e
-line-done t Verb.Withdraw p list formed q act form named e = withdraw-done t p formed form act (q % mostProcesses) e
-line-done t Verb.Malformed p list formed q act form named e = rw e (nothing-done t (p % mostProcesses) (q % mostProcesses) Answer.Unchanged)
-line-done t Verb.New p list formed q act form named e = rw e (nothing-done t (p % mostProcesses) (q % mostProcesses) Answer.Unchanged)
-line-done t Verb.Movers p list formed q act form named e = rw e (nothing-done t (p % mostProcesses) (q % mostProcesses) Answer.Unchanged)
+line-done t Verb.Offer p list form q act told named e = offer-done t p form told act list (q % mostProcesses) e
+line-done t Verb.Step p list form q act told named e = step-done t p form told act q named e
+line-done t Verb.Collect p list form q act told named e = collect-done t p form told act (q % mostProcesses) e
+line-done t Verb.Withdraw p list form q act told named e = withdraw-done t p form told act (q % mostProcesses) e
+line-done t Verb.Malformed p list form q act told named e = rw e (nothing-done t (p % mostProcesses) (q % mostProcesses) Answer.Unchanged)
+line-done t Verb.New p list form q act told named e = rw e (nothing-done t (p % mostProcesses) (q % mostProcesses) Answer.Unchanged)
+line-done t Verb.Movers p list form q act told named e = rw e (nothing-done t (p % mostProcesses) (q % mostProcesses) Answer.Unchanged)
 
 -- `n` and `m` come after the calls of one process, which they find undone
 abbrev replyAfter : ProcessTable → Verb → ℕ → ℕ → GuardList → Reply

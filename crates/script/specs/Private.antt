@@ -10,6 +10,7 @@ use Rattle.command.specs.declared.Verb.{Verb}
 use Rattle.command.specs.declared.Parsed.{Parsed}
 use Rattle.command.specs.InCode.{plain}
 use Rattle.rendezvous.specs.declared.Act.{Act}
+use Rattle.rendezvous.specs.declared.Form.{Form}
 use Rattle.rendezvous.specs.declared.Head.{Head}
 use Rattle.rendezvous.specs.Types.{Process}
 use Rattle.rendezvous.specs.Calls.{create}
@@ -43,14 +44,14 @@ abbrev pub heard : Bool → Parsed → Parsed
 heard made command = cond (made || isNew (command .verb)) command (plain Verb.Malformed 0)
 
 -- the act of a call of one process, from what was read; a command with another verb does nothing
-unfoldable pub lineAct : Verb → ℕ → GuardList → Bool → Head → Process → ℕ → Process → Act
-lineAct Verb.Offer p list formed h x q y = offerAct formed h p x list
-lineAct Verb.Step p list formed h x q y = stepAct formed h p x q y
-lineAct Verb.Collect p list formed h x q y = collectAct formed h p x
-lineAct Verb.Withdraw p list formed h x q y = withdrawAct formed h p x
-lineAct Verb.Malformed p list formed h x q y = alone Answer.Unchanged h x
-lineAct Verb.New p list formed h x q y = alone Answer.Unchanged h x
-lineAct Verb.Movers p list formed h x q y = alone Answer.Unchanged h x
+unfoldable pub lineAct : Verb → ℕ → GuardList → Form → Head → Process → ℕ → Process → Act
+lineAct Verb.Offer p list form h x q y = offerAct form h p x list
+lineAct Verb.Step p list form h x q y = stepAct form h p x q y
+lineAct Verb.Collect p list form h x q y = collectAct form h p x
+lineAct Verb.Withdraw p list form h x q y = withdrawAct form h p x
+lineAct Verb.Malformed p list form h x q y = alone Answer.Unchanged h x
+lineAct Verb.New p list form h x q y = alone Answer.Unchanged h x
+lineAct Verb.Movers p list form h x q y = alone Answer.Unchanged h x
 
 -- the reply to `n`, with the table that goes on
 unfoldable pub newReply : ProcessTable → ℕ → ℕ → Reply

@@ -4,6 +4,7 @@ use command::Verb;
 use process::Process;
 use rendezvous::Act;
 use rendezvous::Answer;
+use rendezvous::Form;
 use rendezvous::Head;
 use rendezvous::ProcessTable;
 use rendezvous::Reply;
@@ -17,17 +18,17 @@ ghost use Rattle.script.specs.Session.{isRefused};
 ghost use Rattle.script.specs.Private.{lineAct, newReply};
 
 // A call of one process, from what was read of the table. A command with another verb does nothing here.
-pub fn line_act(command: Parsed, formed: bool, head: Head, x: Process, q: u8, y: Process) -> Act
-    ensures { λ r. ⌜ r ≡ lineAct (command .verb) (command .number) (command .list) formed head x q y ⌝ }
+pub fn line_act(command: Parsed, form: Form, head: Head, x: Process, q: u8, y: Process) -> Act
+    ensures { λ r. ⌜ r ≡ lineAct (command .verb) (command .number) (command .list) form head x q y ⌝ }
 {
     let verb = command.verb;
     let p = command.number;
     let list = command.list;
     match verb {
-        Verb::Offer => offer_act(formed, head, p, x, list),
-        Verb::Step => step_act(formed, head, p, x, q, y),
-        Verb::Collect => collect_act(formed, head, p, x),
-        Verb::Withdraw => withdraw_act(formed, head, p, x),
+        Verb::Offer => offer_act(form, head, p, x, list),
+        Verb::Step => step_act(form, head, p, x, q, y),
+        Verb::Collect => collect_act(form, head, p, x),
+        Verb::Withdraw => withdraw_act(form, head, p, x),
         Verb::Malformed => alone(Answer::Unchanged, head, x),
         Verb::New => alone(Answer::Unchanged, head, x),
         Verb::Movers => alone(Answer::Unchanged, head, x),

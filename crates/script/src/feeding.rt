@@ -17,7 +17,6 @@ use crate::printing::malformed_line;
 use crate::printing::printed_line;
 use rendezvous::MOST_PROCESSES;
 use rendezvous::ProcessTable;
-use rendezvous::form_end;
 use rendezvous::form_more;
 use rendezvous::form_start;
 use text::LINE_BYTES;
@@ -65,7 +64,7 @@ pub fn feed(session: Session, piece: &[u8], out: &mut [u8]) -> Fed
         i = i + 1;
         if b == b'\n' {
             let command = heard(made, line_command(&bytes[..held]));
-            // what a call reads: whether the table is well-formed, and the records of its process and of the partner
+            // what a call reads: what the form test finds, and the records of its process and of the partner
             let head = table.head;
             let mut form = form_start(head);
             let mut k: u8 = 0;
@@ -82,7 +81,7 @@ pub fn feed(session: Session, piece: &[u8], out: &mut [u8]) -> Fed
             let q = x.partner();
             let there = (q % MOST_PROCESSES) as usize;
             let y = table.processes[there];
-            let act = line_act(command, form_end(form, head), head, x, q, y);
+            let act = line_act(command, form, head, x, q, y);
             // what it does
             if act.told {
                 // Read anew: y would be held, and so copied, across the rule.

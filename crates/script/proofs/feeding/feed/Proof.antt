@@ -10,7 +10,7 @@ use Rattle.text.proofs.Capped.{put-more, put-none}
 use Rattle.text.specs.Writing.{shown, lineLength}
 use Rattle.rendezvous.specs.Table.{mostProcesses}
 use Rattle.rendezvous.proofs.Lengths.{length-mapped}
-use Rattle.rendezvous.proofs.Forms.{FormAt, form-start, form-more, form-end}
+use Rattle.rendezvous.proofs.Forms.{FormAt, form-start, form-more, form-of}
 use Rattle.rendezvous.proofs.Done.{done-both, done-own}
 use Rattle.script.specs.Types.{Reply}
 use Rattle.script.specs.Printing.{endOfLine}
@@ -49,7 +49,7 @@ abbrev inTurn : (c : tie.After-heard Inv-loop2 μ-loop2 Inv-loop μ-loop) → ti
 inTurn c = c .before .before .before .before .before
 
 abbrev atCommand : (c : tie.Joined3 Inv-loop2 μ-loop2 Inv-loop μ-loop) → tie.After-heard Inv-loop2 μ-loop2 Inv-loop μ-loop
-atCommand c = c .before .before .before .before .before .before .before .before .before .before .before .before
+atCommand c = c .before .before .before .before .before .before .before .before .before .before .before
 
 abbrev atAct : (c : tie.After-is-new Inv-loop2 μ-loop2 Inv-loop μ-loop) → tie.Joined3 Inv-loop2 μ-loop2 Inv-loop μ-loop
 atAct c = c .before .before .before
@@ -79,9 +79,9 @@ carriedOut c =
 
 called : (c : tie.Joined3 Inv-loop2 μ-loop2 Inv-loop μ-loop) → let p = atCommand c .heard .result in carriedOut c ≡ calledBy (inTurn (atCommand c) .before .loop .table) (p .verb) (p .number) (p .list)
 called c =
-    let l = c .before .before .before .before .before .before .before .before .before in
-    let formed = form-end _ (l .loop2 .k) _ _ (omega arith) (l .loop2 .inv .1) (c .before .before .form-end .ensures) in
-    let does = line-done _ _ _ _ _ _ _ formed (c .before .before .before .before .partner .ensures) (c .before .line-act .ensures) in
+    let l = c .before .before .before .before .before .before .before .before in
+    let form = form-of _ (l .loop2 .k) _ (omega arith) (l .loop2 .inv .1) in
+    let does = line-done _ _ _ _ _ _ _ form (c .before .before .before .partner .ensures) (c .before .line-act .ensures) in
     ⊎-elim (λ a. done-both _ _ _ _ _ _ (a .0 .taken) (a .2 .ensures) (a .3) ∙ does) (λ a. done-own _ _ _ _ _ (a .0 .left) (a .1) ∙ does) (c .if3 .came)
 
 -- .. and then what is about the whole table
@@ -208,7 +208,6 @@ feed-spec =
     (λ c. omega arith)
     (λ c. omega arith)
     (λ c. omega arith)
-    (λ c κs. search needs)
     (λ c κs. search needs)
     (λ c. omega arith)
     (λ c. omega arith)
