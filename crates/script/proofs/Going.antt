@@ -14,7 +14,6 @@ use Rattle.script.specs.Printing.{endOfLine}
 use Rattle.script.specs.Lines.{Ended, begunLength, lineCommand}
 use Rattle.script.specs.Session.{Turn, turn}
 use Rattle.script.specs.Feeding.{SessionState, After, andThen, lineEnded, lineGrown, fedByte, fed}
-use Rattle.script.proofs.Turns.{turn-length}
 
 -- after i bytes of the input: the state, and the output with what is filled
 pub record Going (s₀ : SessionState) (input out₀ : List ℕ) (s : SessionState) (i : ℕ) (out : List ℕ) (filled : ℕ) : Type 0 where
@@ -55,12 +54,11 @@ module _ (s₀ : SessionState) (input out₀ : List ℕ) (s : SessionState) (i :
   -- a byte that ends the line
   pub going-line : (text : List ℕ) (table : Option ProcessTable) (out′ : List ℕ) (filled′ : ℕ) → b ≡ endOfLine
       → _≡_ {A = Turn} (record { prints = text; table = table }) (turn (s .table) (lineCommand (Ended (s .begun))))
-      → filled + lineLength ≤ length out → filled′ ≡ filled + length text → out′ ≡ take filled out ++ text ++ drop filled′ out
+      → length text ≤ lineLength → filled + lineLength ≤ length out → filled′ ≡ filled + length text → out′ ≡ take filled out ++ text ++ drop filled′ out
       → Going s₀ input out₀ (record { begun = []; table = table }) (i + 1) out′ filled′
   unfolding rest fedByte lineEnded
-  going-line text table out′ filled′ n t r f o =
+  going-line text table out′ filled′ n t short r f o =
       let ended : fed s (drop i input) ≡ andThen text (fed (record { begun = []; table = table }) (drop (i + 1) input)) = rw (eq-eqb b endOfLine n, ← t) at by-byte in
-      let short : length text ≤ lineLength = rw (← t) at (turn-length (s .table) (lineCommand (Ended (s .begun)))) in
       let at : length (take filled out ++ text) ≡ filled′ = simp (length-append, length-take) (omega arith) in
       let taken : take filled′ out′ ≡ take filled out ++ text = rw o (take-at (take filled out ++ text) (drop filled′ out) filled′ at) in
       let dropped : drop filled′ out′ ≡ drop filled′ out = rw o (drop-at (take filled out ++ text) (drop filled′ out) filled′ at) in

@@ -1,18 +1,26 @@
 -- Laws of what is printed: no line has more bytes than a text keeps, so it keeps all of them.
-use Prim.Native.Nat.{ℕ, _≤_}
+use Prim.Native.Nat.{ℕ, _+_, _≤_}
 use mathlib.Core.Path.{_≡_, refl, _∙_}
 use mathlib.Core.List.{List, [], _∷_, _++_}
 use mathlib.Core.Option.{Option, some, none}
 use native.Mathlib.Omega.{arith}
+use borrow.Author.Needs.{needs, length-unmapped}
 use lib.ListN.{length, length-append}
 use lib.Ieee.{binary32, toBits}
-use Rattle.text.specs.Writing.{capped, decimalText, lineLength}
-use Rattle.text.proofs.Capped.{capped-short}
-use Rattle.text.proofs.Printed.{decimal-text-length, whole-text-length, hex-text-length}
-use Rattle.rendezvous.specs.Numbers.{Said, made, ticket, place, same, outcome, withdrawn, tooLate, movers, refusal}
-use Rattle.script.specs.Types.{Message}
+use mir.Val.{Val}
+use denote.Shadow.{shadow}
+use denote.Struct.Declared as declared
+use Rattle.text.specs.declared.Text.{Text}
+use Rattle.text.specs.Writing.{shown, capped, decimalText, lineLength}
+use Rattle.text.proofs.Text as text
+use Rattle.text.proofs.Capped.{capped-short, shown-length}
+use Rattle.text.proofs.Printed.{decimal-text-length, byte-text-length, whole-text-length, hex-text-length}
+use Rattle.rendezvous.specs.Numbers.{place, refusalNumber, said}
+use Rattle.rendezvous.proofs.Answer as answer
+use Rattle.script.specs.Types.{Message, Answer}
 use Rattle.script.specs.Printing.{messageText, field, refusalText, answerText, ended}
 use Rattle.alternative.specs.declared.Found.{Found}
+use Rattle.process.specs.Process.{letterOf, indexOf}
 use Rattle.process.specs.InCode.{asFound}
 
 -- an index that the code finds or misses
@@ -24,34 +32,37 @@ pub found-some : (o : Option ℕ) (i : ℕ) → asFound o ≡ Found.At i → o �
 found-some none i e = let z : _≡_ {A = ℕ} 0 1 = cc in absurd (omega arith)
 found-some (some j) i e = cc
 
-message-length : (m : Message) → length (messageText m) ≤ 17
+message-length : (m : Message) → length (messageText m) ≤ 22
 unfolding messageText
 message-length Message.Nothing = omega arith
 message-length (Message.Whole x) = omega (arith, whole-text-length x)
 message-length (Message.Reading x) = omega (arith, hex-text-length (toBits binary32 x))
 message-length (Message.Limit low high) = simp length-append (omega (arith, hex-text-length (toBits binary32 low), hex-text-length (toBits binary32 high)))
 
--- a command's text has 12 bytes at most, and what is put after it 41
-pub answer-length : (command : List ℕ) (s : Said) → length command ≤ 12 → length (answerText command s) ≤ 53
+place-length : (command : List ℕ) (letter : ℕ) (index : Option ℕ) → length (answerText command (place letter index)) ≤ length command + 22
 unfolding answerText
-answer-length command made h = omega arith
-answer-length command (ticket t) h = simp length-append (omega (arith, decimal-text-length t))
-answer-length command (place letter none) h = simp length-append (omega arith)
-answer-length command (place letter (some i)) h = simp length-append (omega (arith, decimal-text-length i))
-answer-length command same h = simp length-append (omega arith)
-answer-length command (outcome i q m) h = simp length-append (omega (arith, decimal-text-length i, decimal-text-length q, message-length m))
-answer-length command withdrawn h = simp length-append (omega arith)
-answer-length command tooLate h = simp length-append (omega arith)
-answer-length command (movers set) h = simp length-append (omega (arith, hex-text-length set))
-answer-length command (refusal k) h = omega (arith, decimal-text-length k)
+place-length command letter none = simp length-append (omega arith)
+place-length command letter (some i) = simp length-append (omega (arith, decimal-text-length i))
 
-line-capped : (command : List ℕ) (s : Said) → length command ≤ 12 → capped (ended (answerText command s)) ≡ ended (answerText command s)
-line-capped command s h = capped-short (ended (answerText command s)) (simp length-append (omega (arith, answer-length command s h)))
+-- A command's text has 22 bytes at most, and what is put after it 31: an outcome's guard index and partner are bytes, as owning the answer tells. With any two
+-- numbers in their places, the text would be longer than a line.
+answer-length : (command : List ℕ) (a : Answer) (vs : List Val) → shadow (answer.the-row .own a vs) → length command ≤ 22 → length (answerText command (said a)) ≤ 53
+unfolding answerText
+answer-length command Answer.Made vs o h = omega arith
+answer-length command (Answer.Offered t) vs o h = simp length-append (omega (arith, decimal-text-length (t .0)))
+answer-length command (Answer.Moved at) vs o h = omega (arith, place-length command (letterOf at) (indexOf at))
+answer-length command Answer.Unchanged vs o h = simp length-append (omega arith)
+answer-length command (Answer.Collected i q m) vs o h = simp length-append (omega (arith, byte-text-length i (search needs), byte-text-length q (search needs), message-length m))
+answer-length command Answer.Withdrawn vs o h = simp length-append (omega arith)
+answer-length command Answer.TooLate vs o h = simp length-append (omega arith)
+answer-length command (Answer.Runnable set) vs o h = simp length-append (omega (arith, hex-text-length set))
+answer-length command (Answer.Refused r) vs o h = omega (arith, decimal-text-length (refusalNumber r))
 
-pub line-text : {begun text : List ℕ} (command : List ℕ) (s : Said) → length command ≤ 12 → begun ≡ command → text ≡ capped (ended (answerText begun s)) → text ≡ ended (answerText command s)
-line-text command s h b e = e ∙ rw b (line-capped command s h)
+pub line-text : {begun text : List ℕ} (command : List ℕ) (a : Answer) (vs : List Val) → shadow (answer.the-row .own a vs) → length command ≤ 22 → begun ≡ command
+    → text ≡ capped (ended (answerText begun (said a))) → text ≡ ended (answerText command (said a))
+line-text command a vs o h b e = e ∙ rw b (capped-short (ended (answerText command (said a))) (simp length-append (omega (arith, answer-length command a vs o h))))
 
-pub number-length : (letter n : ℕ) → length (letter ∷ field (decimalText n)) ≤ 12
+pub number-length : (letter n : ℕ) → length (letter ∷ field (decimalText n)) ≤ 22
 number-length letter n = omega (arith, decimal-text-length n)
 
 pub number-capped : (letter n : ℕ) → capped (letter ∷ field (decimalText n)) ≡ letter ∷ field (decimalText n)
@@ -61,8 +72,9 @@ number-capped letter n = capped-short (letter ∷ field (decimalText n)) (omega 
 pub letter-capped : (letter : ℕ) {empty one : List ℕ} → empty ≡ [] → one ≡ capped (empty ++ letter ∷ []) → one ≡ letter ∷ []
 letter-capped letter e f = f ∙ rw e (capped-short (letter ∷ []) (omega arith))
 
-pub refusal-length : (k : ℕ) → length (ended (refusalText k)) ≤ lineLength
-refusal-length k = simp length-append (omega (arith, decimal-text-length k))
-
 pub refusal-capped : (k : ℕ) → capped (ended (refusalText k)) ≡ ended (refusalText k)
-refusal-capped k = capped-short (ended (refusalText k)) (refusal-length k)
+refusal-capped k = capped-short (ended (refusalText k)) (simp length-append (omega (arith, decimal-text-length k)))
+
+-- what owning a text tells
+pub text-length : (t : Text) (vs : List Val) → shadow (declared.row text.the-type .own t vs) → length (shown t) ≤ lineLength
+text-length t vs o = shown-length t (search (length-unmapped, o))

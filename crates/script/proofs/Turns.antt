@@ -1,14 +1,11 @@
 -- Laws of one line's turn: what the code does with a command, and the table with which reading goes on.
-use Prim.Native.Nat.{ℕ, _%_, _≤_, _<_}
-use Prim.Native.Char.{code}
+use Prim.Native.Nat.{ℕ, _%_, _<_}
 use mathlib.Core.Path.{_≡_, refl, ap, _∙_, sym}
 use mathlib.Core.Bool.{Bool, true, false, not, _||_, cond, false≢true}
 use mathlib.Core.List.{List}
 use mathlib.Core.Option.{Option, some, none}
-use native.Mathlib.Omega.{arith}
-use lib.ListN.{length, length-append}
+use lib.ListN.{length}
 use Rattle.alternative.specs.Guards.{lent}
-use Rattle.text.specs.Writing.{lineLength}
 use Rattle.command.specs.declared.Verb.{Verb}
 use Rattle.command.specs.declared.Parsed.{Parsed}
 use Rattle.command.specs.InCode.{asParsed}
@@ -19,20 +16,17 @@ use Rattle.rendezvous.specs.declared.Form.{Form}
 use Rattle.rendezvous.specs.declared.Verdict.{Verdict}
 use Rattle.rendezvous.specs.Table.{mostProcesses, process}
 use Rattle.rendezvous.specs.Refusals.{offerVerdict, processVerdict, tableVerdict, withdrawVerdict}
-use Rattle.rendezvous.specs.Numbers.{said}
 use Rattle.rendezvous.specs.Calls.{ifAccepted, create, offered, offerList, effectOn, applied, stepped, step, collect, commitCameFirst, withdrawnOrLate, withdraw}
 use Rattle.rendezvous.specs.Movers.{runnable, runnableSet}
 use Rattle.rendezvous.specs.Run.{Call, replyTo}
 use Rattle.rendezvous.specs.Commands.{replyToCommand}
 use Rattle.rendezvous.specs.Acts.{done, FormOf}
 use Rattle.script.specs.Types.{GuardList, ProcessTable, Answer, Reply, Offer, Step, Collect, Withdraw, Command, New, Do, Movers}
-use Rattle.script.specs.Printing.{commandText}
 use Rattle.script.specs.Lines.{Ended, lineCommand}
-use Rattle.script.specs.Session.{replyFrom, isRefused, Turn, answered, turnBy, turn}
+use Rattle.script.specs.Session.{replyFrom, isRefused, Turn, answered, turn}
 use Rattle.script.specs.Feeding.{tableIf}
 use Rattle.script.specs.Private.{isNew, isMovers, heard, newReply, lineAct, lineText}
 use Rattle.rendezvous.proofs.Done.{nothing-done, offer-done, step-done, collect-done, withdraw-done}
-use Rattle.script.proofs.Texts.{answer-length, number-length, refusal-length}
 
 -- "It returns its number and the desk received": refused or not, reading goes on with the table of a call's reply
 unfoldable GoesOn : ProcessTable → Reply → Type 0
@@ -166,25 +160,3 @@ line-turn made t line c p text made′ reply parsed hears has prints = rw (print
 pub record Sized (t : ProcessTable) : Type 0 where
   pub records : length (t .processes) ≡ mostProcesses
   pub byte : t .head .n < 256
-
--- a line prints no more bytes than a line may have
-answered-length : (table : Option ProcessTable) (command : List ℕ) (reply : Reply) → length command ≤ 12 → length (answered table command reply .prints) ≤ lineLength
-unfolding answered
-answered-length table command reply h = simp length-append (omega (arith, answer-length command (said (reply .answer)) h))
-
-command-length : (c : Command) → length (commandText c) ≤ 12
-command-length (New n d) = number-length (code "n") n
-command-length (Do (Offer p gs)) = number-length (code "o") p
-command-length (Do (Step p)) = number-length (code "s") p
-command-length (Do (Collect p)) = number-length (code "c") p
-command-length (Do (Withdraw p)) = number-length (code "w") p
-command-length Movers = omega arith
-
-by-length : (table : Option ProcessTable) (c : Command) (reply : Option Reply) → length (turnBy table c reply .prints) ≤ lineLength
-by-length table c none = refusal-length 8
-by-length table c (some reply) = answered-length table (commandText c) reply (command-length c)
-
-pub turn-length : (table : Option ProcessTable) (c : Option Command) → length (turn table c .prints) ≤ lineLength
-unfolding turn
-turn-length table none = refusal-length 8
-turn-length table (some c) = by-length table c (replyFrom table c)

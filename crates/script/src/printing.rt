@@ -33,21 +33,21 @@ fn place_text(command: Text, place: Place) -> Text
     let text = command.byte(b' ').byte(place.letter());
     match place.index() {
         Found::Missing => text,
-        Found::At(i) => text.decimal(i as u32),
+        Found::At(i) => text.decimal(i as u64),
     }
 }
 
 fn refusal_text(number: u8) -> Text
     ensures { λ r. ⌜ shown r ≡ capped (refusalText number) ⌝ }
 {
-    Text::empty().byte(b'x').byte(b' ').decimal(number as u32)
+    Text::empty().byte(b'x').byte(b' ').decimal(number as u64)
 }
 
 fn outcome_text(command: Text, index: u8, partner: u8, m: Message) -> Text
     ensures { λ r. ⌜ shown r ≡ capped (answerText (shown command) (Said.outcome index partner m)) ⌝ }
 {
-    let guard = command.byte(b' ').decimal(index as u32);
-    let named = guard.byte(b' ').decimal(partner as u32);
+    let guard = command.byte(b' ').decimal(index as u64);
+    let named = guard.byte(b' ').decimal(partner as u64);
     message_text(named.byte(b' '), m)
 }
 
@@ -56,7 +56,7 @@ fn answer_text(command: Text, answer: Answer) -> Text
 {
     match answer {
         Answer::Made => command,
-        Answer::Offered(ticket) => command.byte(b' ').byte(b't').decimal(ticket.0),
+        Answer::Offered(ticket) => command.byte(b' ').byte(b't').decimal(ticket.0 as u64),
         Answer::Moved(place) => place_text(command, place),
         Answer::Unchanged => command.byte(b' ').byte(b'='),
         Answer::Collected(index, partner, m) => outcome_text(command, index, partner, m),
@@ -76,7 +76,7 @@ fn answer_text(command: Text, answer: Answer) -> Text
 fn command_text(letter: u8, number: u8) -> Text
     ensures { λ r. ⌜ shown r ≡ letter ∷ field (decimalText number) ⌝ }
 {
-    Text::empty().byte(letter).byte(b' ').decimal(number as u32)
+    Text::empty().byte(letter).byte(b' ').decimal(number as u64)
 }
 
 // The line of a malformed command.

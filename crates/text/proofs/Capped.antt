@@ -28,7 +28,7 @@ pub capped-then : (a b d : List ℕ) → capped (capped (a ++ b) ++ d) ≡ cappe
 capped-then a b d = capped-capped (a ++ b) d ∙ ap capped (append-assoc a b d)
 
 -- a text holds at most as many bytes as a line may have, whatever its length says
-shown-length : (t : Text) → length (t .bytes) ≡ lineLength → length (shown t) ≤ lineLength
+pub shown-length : (t : Text) → length (t .bytes) ≡ lineLength → length (shown t) ≤ lineLength
 unfolding shown
 shown-length t h = omega (arith, length-take (t .length) (t .bytes))
 

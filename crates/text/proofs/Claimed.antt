@@ -5,7 +5,7 @@ use Rattle.text.specs.Digits.{placeFrom, hexDigit, hexGlyph}
 use Rattle.text.specs.Reading.{decimalFrom, decimal, byteNumber, whole, hexFrom, hexWord}
 use Rattle.text.specs.Writing.{decimalUpTo, wholeText, hexUpTo}
 use Rattle.text.specs.Claims.{numbersFrom, EdgeCases, ReadBack, ByteValues, ValueDigits}
-use Rattle.text.proofs.RoundTrips.{byte-number-back, whole-back, hex-word-back}
+use Rattle.text.proofs.RoundTrips.{decimal-back, byte-number-back, whole-back, hex-word-back}
 use Rattle.text.proofs.Hexadecimals.{glyph-back, word-spoilt}
 
 pub byte-values-hold : ByteValues
@@ -38,6 +38,10 @@ edge-cases-hold = record {
   minusZeros = refl;
   plusSign = refl;
   leastPrinted = refl;
+  pastWord = refl;
+  nineteenDigits = refl;
+  twentyDigits = refl;
+  lastPrinted = refl;
   hexRead = refl;
   hexLargest = refl;
   upperCase = refl;
@@ -47,4 +51,4 @@ edge-cases-hold = record {
 }
 
 pub read-back-holds : ReadBack
-read-back-holds = record { byteNumbers = byte-number-back; wholes = whole-back; hexWords = hex-word-back }
+read-back-holds = record { decimals = decimal-back; byteNumbers = byte-number-back; wholes = whole-back; hexWords = hex-word-back }

@@ -1,10 +1,11 @@
 -- What the printer needs of the texts of numbers.
-use Prim.Native.Nat.{ℕ, zero, suc, _+_, _-_, _/_, _%_, _<_, _≤_}
+use Prim.Native.Nat.{ℕ, zero, suc, _+_, _-_, _/_, _%_, _^_, _<_, _≤_}
 use Prim.Native.Char.{code}
 use mathlib.Core.Path.{_≡_, refl, ap}
 use mathlib.Core.Bool.{Bool, true, false, cond}
-use mathlib.Core.List.{[], _∷_, _++_}
+use mathlib.Core.List.{List, [], _∷_, _++_}
 use native.Mathlib.Omega.{arith}
+use native.Mathlib.Nat.{pow-suc}
 use borrow.Author.Tests.{lt-ltb, le-ltb}
 use lib.Dec.{ltb}
 use lib.IntN.{ℤ, pos, natAbs}
@@ -48,24 +49,33 @@ unfolding wholeText
 whole-above x e = rw e
 
 -- ---- how long the texts are
-decimal-length : (k n : ℕ) → length (decimalUpTo k n) ≤ k + 1
+by-last-digit : (n m : ℕ) (l : List ℕ) (t : Bool) → length l ≤ m → length (cond t ((code "0" + n) ∷ []) (l ++ (code "0" + n % 10) ∷ [])) ≤ suc m
+by-last-digit n m l true h = omega arith
+by-last-digit n m l false h = omega (arith, length-append l ((code "0" + n % 10) ∷ []))
+
+decimal-length : (k n : ℕ) → length (decimalUpTo k n) ≤ suc k
 unfolding decimalUpTo
 decimal-length zero n = omega arith
-decimal-length (suc k) n = at (ltb n 10) (decimal-length k (n / 10))
-  where
-    at : (t : Bool) → length (decimalUpTo k (n / 10)) ≤ k + 1
-        → length (cond t ((code "0" + n) ∷ []) (decimalUpTo k (n / 10) ++ (code "0" + n % 10) ∷ [])) ≤ suc k + 1
-    at true h = omega arith
-    at false h = omega (arith, length-append (decimalUpTo k (n / 10)) ((code "0" + n % 10) ∷ []))
+decimal-length (suc k) n = by-last-digit n (suc k) (decimalUpTo k (n / 10)) (ltb n 10) (decimal-length k (n / 10))
 
-pub decimal-text-length : (n : ℕ) → length (decimalText n) ≤ 10
-decimal-text-length n = decimal-length 9 n
+pub decimal-text-length : (n : ℕ) → length (decimalText n) ≤ 20
+decimal-text-length n = decimal-length 19 n
 
-pub whole-text-length : (x : ℤ) → length (wholeText x) ≤ 11
+-- where the number has fewer digits
+small-length : (k d n : ℕ) → n < 10 ^ suc d → length (decimalUpTo k n) ≤ suc d
+unfolding decimalUpTo
+small-length zero d n h = omega arith
+small-length (suc k) zero n h = rw (lt-ltb n 10 h) (omega arith)
+small-length (suc k) (suc d) n h = by-last-digit n (suc d) (decimalUpTo k (n / 10)) (ltb n 10) (small-length k d (n / 10) (omega (arith, pow-suc 10 (suc d))))
+
+pub byte-text-length : (n : ℕ) → n < 256 → length (decimalText n) ≤ 3
+byte-text-length n h = small-length 19 2 n (omega arith)
+
+pub whole-text-length : (x : ℤ) → length (wholeText x) ≤ 21
 unfolding wholeText
 whole-text-length x = at (ltZ x (pos 0))
   where
-    at : (t : Bool) → length (cond t (code "-" ∷ decimalText (natAbs x)) (decimalText (natAbs x))) ≤ 11
+    at : (t : Bool) → length (cond t (code "-" ∷ decimalText (natAbs x)) (decimalText (natAbs x))) ≤ 21
     at true = omega (arith, decimal-text-length (natAbs x))
     at false = omega (arith, decimal-text-length (natAbs x))
 

@@ -75,12 +75,13 @@ unfolding decimalUpTo
 head zero n = record { there = omega arith; digit = omega arith; lead = λ a b e. omega arith }
 head (suc k) n = rw (pow-suc 10 (suc k)) (head-at n (10 ^ suc k) (decimalUpTo k (n / 10)) (ltb n 10) refl (head k (n / 10)))
 
-decimal-back : (n : ℕ) → n < 10000000000 → decimal (decimalText n) ≡ some n
-unfolding decimalUpTo decimal
-decimal-back zero h = value 9 0 h
+pub decimal-back : (n : ℕ) → n ≤ 18446744073709551615 → decimal (decimalText n) ≡ some n
+unfolding decimalUpTo decimalFrom decimal
+decimal-back zero h = refl
 decimal-back (suc n) h =
-    let first = head 9 (suc n) in
-    decimal-more (decimalText (suc n)) (first .there) (first .lead (omega arith) h) ∙ value 9 (suc n) h
+    let first = head 19 (suc n) in
+    let few : suc n < 10 ^ 20 = omega arith in
+    decimal-more (decimalText (suc n)) (first .there) (first .lead (omega arith) few) ∙ value 19 (suc n) few
 
 -- ---- the numbers of a script
 pub byte-number-back : (n : ℕ) → n ≤ 255 → byteNumber (decimalText n) ≡ some n
@@ -99,7 +100,7 @@ negative-back n p h = rw (decimal-back n (omega arith), in-word n (omega arith),
 pub whole-back : (x : ℤ) → SFits w32 x → whole (wholeText x) ≡ some x
 whole-back (pos n) f =
     let b : n < 2147483648 = f .sfits in
-    let first = head 9 n in
+    let first = head 19 n in
     ap whole (whole-above (pos n) (le-ltb n 0 (omega arith)))
     ∙ whole-plus (decimalText n) (first .there) (λ e. omega (arith, first .digit, e))
     ∙ positive-back n (omega arith)

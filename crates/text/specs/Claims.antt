@@ -10,7 +10,7 @@ use mir.Syntax.{w32}
 use mir.Val.{SFits}
 use Rattle.text.specs.Ascii.{bytes}
 use Rattle.text.specs.Digits.{hexDigit, hexGlyph}
-use Rattle.text.specs.Reading.{byteNumber, whole, hexWord}
+use Rattle.text.specs.Reading.{decimal, byteNumber, whole, hexWord}
 use Rattle.text.specs.Writing.{decimalText, wholeText, hexText}
 
 pub record EdgeCases : Type 0 where
@@ -35,6 +35,11 @@ pub record EdgeCases : Type 0 where
   pub minusZeros : whole (bytes "-01") ≡ none
   pub plusSign : whole (bytes "+1") ≡ none
   pub leastPrinted : wholeText (negℤ (pos 2147483648)) ≡ bytes "-2147483648"
+  -- numbers of up to 64 bits: the first that 32 bits do not hold, the last of nineteen digits, the first of twenty, the last
+  pub pastWord : decimalText 4294967296 ≡ bytes "4294967296"
+  pub nineteenDigits : decimalText 9999999999999999999 ≡ bytes "9999999999999999999"
+  pub twentyDigits : decimalText 10000000000000000000 ≡ bytes "10000000000000000000"
+  pub lastPrinted : decimalText 18446744073709551615 ≡ bytes "18446744073709551615"
   -- "eight lower-case hexadecimal digits"
   pub hexRead : hexWord (bytes "40970a3d") ≡ some 0x40970a3d
   pub hexLargest : hexWord (bytes "ffffffff") ≡ some 4294967295
@@ -45,6 +50,7 @@ pub record EdgeCases : Type 0 where
 
 -- what is printed is read back
 pub record ReadBack : Type 0 where
+  pub decimals : (n : ℕ) → n ≤ 18446744073709551615 → decimal (decimalText n) ≡ some n
   pub byteNumbers : (n : ℕ) → n ≤ 255 → byteNumber (decimalText n) ≡ some n
   pub wholes : (x : ℤ) → SFits w32 x → whole (wholeText x) ≡ some x
   pub hexWords : (n : ℕ) → n < 4294967296 → hexWord (hexText n) ≡ some n

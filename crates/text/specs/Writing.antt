@@ -27,9 +27,9 @@ unfoldable pub decimalUpTo : ℕ → ℕ → List ℕ
 decimalUpTo zero n = (code "0" + n % 10) ∷ []
 decimalUpTo (suc k) n = cond (ltb n 10) ((code "0" + n) ∷ []) (decimalUpTo k (n / 10) ++ (code "0" + n % 10) ∷ [])
 
--- ten digits are enough for each number of 32 bits
+-- twenty digits are enough for each number of 64 bits
 abbrev pub decimalText : ℕ → List ℕ
-decimalText n = decimalUpTo 9 n
+decimalText n = decimalUpTo 19 n
 
 -- "with `-` if negative, without `+`"
 unfoldable pub wholeText : ℤ → List ℕ

@@ -35,7 +35,8 @@ pub struct Text {
     pub bytes: [u8; LINE_BYTES],
 }
 
-// Carries the edge cases: at the ends of document 01's numbers the definitions say what it says.
+// Carries the edge cases: at the ends of document 01's numbers the definitions say what it says, and at the ends of 64 bits no digit
+// is lost.
 pub fn edge_cases()
     ensures { λ _. ⌜ EdgeCases ⌝ }
 {}

@@ -32,13 +32,13 @@ pub fn negative(n: u32) -> Whole
 }
 
 // A number without its sign.
-pub fn magnitude(x: i32) -> u32
+pub fn magnitude(x: i32) -> u64
     ensures { λ r. ⌜ r ≡ natAbs x ⌝ }
 {
     if x < 0 {
         let w = x as i64;
-        (-w) as u32
+        (-w) as u64
     } else {
-        x as u32
+        x as u64
     }
 }

@@ -9,7 +9,7 @@ ghost use Rattle.text.specs.Digits.{hexGlyph};
 ghost use Rattle.text.specs.Writing.{decimalUpTo, decimalText, wholeText, hexUpTo, hexText, shown, capped};
 
 // The digit of a value below 16, by arithmetic; below 10 it is the decimal digit as well.
-fn glyph(d: u32) -> u8
+fn glyph(d: u64) -> u8
     requires { ⌜ d < 16 ⌝ }
     ensures { λ r. ⌜ r ≡ hexGlyph d ⌝ }
 {
@@ -43,7 +43,7 @@ impl Text {
     }
 
     // At most k + 1 decimal digits.
-    fn decimal_up_to(self, k: u32, n: u32) -> Text
+    fn decimal_up_to(self, k: u32, n: u64) -> Text
         ensures { λ r. ⌜ shown r ≡ capped (shown self ++ decimalUpTo k n) ⌝ }
     {
         if k == 0 {
@@ -56,10 +56,10 @@ impl Text {
         t.byte(glyph(n % 10))
     }
 
-    pub fn decimal(self, n: u32) -> Text
+    pub fn decimal(self, n: u64) -> Text
         ensures { λ r. ⌜ shown r ≡ capped (shown self ++ decimalText n) ⌝ }
     {
-        self.decimal_up_to(9, n)
+        self.decimal_up_to(19, n)
     }
 
     pub fn whole(self, x: i32) -> Text
@@ -82,7 +82,7 @@ impl Text {
             return self;
         }
         let t = self.hex_up_to(digits - 1, n / 16);
-        t.byte(glyph(n % 16))
+        t.byte(glyph((n % 16) as u64))
     }
 
     pub fn hex(self, n: u32) -> Text

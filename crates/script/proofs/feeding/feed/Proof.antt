@@ -17,6 +17,7 @@ use Rattle.script.specs.Printing.{endOfLine}
 use Rattle.script.specs.Lines.{begunLength}
 use Rattle.script.specs.Feeding.{tableIf}
 use Rattle.script.proofs.Lists.{take-most}
+use Rattle.script.proofs.Texts.{text-length}
 use Rattle.script.proofs.Outputs.{put-end, put-all}
 use Rattle.script.proofs.Turns.{calledBy, line-done, Has, has-called, has-new, has-movers, line-turn, Sized}
 use Rattle.script.proofs.Going.{Going, going-start, going-byte, going-line, going-end}
@@ -125,7 +126,7 @@ loop-again c =
       l .loop .inv .2,
       sized m,
       going-line _ _ _ _ (l .loop .i) _ _ _ (l .loop .inv .4) inside (sym (getD-take (l .before .least2 .result) (a .piece .now) (l .loop .i) 0 (omega (arith, w .loop-test .taken)))) _ _ _ _
-          (h .before .before .before .if1 .taken) told (room w) (put-end (l .loop .filled) text (l .loop .out) _ (room w) (u .put .ensures .0)) (put-all (l .loop .filled) text (l .loop .out) _ _ (room w) (u .put .ensures .0) (u .put .ensures .1)),
+          (h .before .before .before .if1 .taken) told (text-length (u .before .printed-line .result) _ (u .before .printed-line .ok)) (room w) (put-end (l .loop .filled) text (l .loop .out) _ (room w) (u .put .ensures .0)) (put-all (l .loop .filled) text (l .loop .out) _ _ (room w) (u .put .ensures .0) (u .put .ensures .1)),
     )
 
 -- a byte that does not end the line

@@ -17,7 +17,9 @@ returns c =
 
 returns-2 : tie.Need-returns-2
 unfolding answerText
-returns-2 c = rw (c .before .before .before .before .answer .given .1) (simp (c .decimal .ensures, c .before .byte2 .ensures, c .before .before .byte .ensures, capped-capped, append-assoc))
+returns-2 c =
+    let t = c .before .before in
+    rw (t .before .before .before .answer .given .1) (simp (c .decimal .ensures, t .byte2 .ensures, t .before .byte .ensures, capped-capped, append-assoc))
 
 returns-3 : tie.Need-returns-3
 returns-3 c = rw (c .before .before .answer2 .given .1) (c .place-text .ensures)
@@ -56,6 +58,7 @@ answer-text-spec =
     (λ c. search needs)
     (λ c κs. search needs)
     (λ c κs. search needs)
+    (λ c. search needs)
     (λ c κs. search needs)
     (λ c. search needs)
     (λ c κs. search needs)

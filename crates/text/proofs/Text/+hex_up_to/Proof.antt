@@ -54,6 +54,7 @@ pub +hex-up-to-spec : {M : Type 1} → statement M
     (hex-up-to-returns t)
     (λ c. search needs)
     (λ c κs. search needs)
+    (λ c. search needs)
     (λ c κs. search needs)
     (λ c κs. search needs)
     (hex-up-to-returns-2 t)

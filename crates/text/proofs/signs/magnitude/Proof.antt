@@ -13,7 +13,7 @@ use Rattle.text.proofs.signs.magnitude.Tie as tie
 
 -- what a cast to an unsigned number asks
 Crosses : ℤ → Type 0
-Crosses z = T (nonNeg z) × Fits w32 (natAbs z)
+Crosses z = T (nonNeg z) × Fits w64 (natAbs z)
 
 cast-w : tie.Need-cast-w
 cast-w c = subst (λ (z : ℤ). SFits w64 z) (sym (toZ-ofZ (c .before .fits .x))) (sfits-widen tt (c .before .fits .x))
