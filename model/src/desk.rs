@@ -30,6 +30,10 @@ pub struct Desk {
     /// The nap length: a sleeper leaves S at its own step of this number there.
     pub nap: u8,
     pub next_ticket: Ticket,
+    /// The commits so far.
+    pub meetings: u64,
+    /// The offers withdrawn so far.
+    pub withdrawn: u64,
     pub parties: Vec<Party>,
 }
 
@@ -98,6 +102,8 @@ impl Desk {
             n,
             nap,
             next_ticket: Ticket(0),
+            meetings: 0,
+            withdrawn: 0,
             parties: vec![Party::fresh(); n],
         })
     }
@@ -153,6 +159,9 @@ impl Desk {
                 // With wake count 1 nobody commits on the posted list left here.
                 record.wake_count = 1;
                 record.place = Place::Idle;
+                // In form `withdrawn` is at most the next ticket, which has 32
+                // bits, so one more fits into 64.
+                self.withdrawn += 1;
                 Ok(Withdrawal::Withdrawn)
             }
         }
@@ -200,6 +209,12 @@ impl Desk {
                 guards: record.guards.clone(),
             })
             .collect()
+    }
+
+    /// The number of open offers, on any desk.
+    pub fn open_count(&self) -> usize {
+        let parties = self.parties.iter().take(self.n);
+        parties.filter(|record| record.is_open()).count()
     }
 
     /// Refusals 7 and 2, which come first in every call that names a party.

@@ -11,6 +11,16 @@ pub fn in_form(desk: &Desk) -> bool {
         && desk.nap > 0
         && desk.parties.len() >= desk.n
         && (0..desk.n).all(|party| party_in_form(desk, party))
+        && totals_in_form(desk)
+}
+
+/// A ticket is given for each offer, and an offer is met (two at a time),
+/// withdrawn or open: more than the next ticket tells there cannot be. Damaged
+/// counters may hold anything, and twice 2^63 is no number of 64 bits.
+fn totals_in_form(desk: &Desk) -> bool {
+    let (meetings, withdrawn) = (u128::from(desk.meetings), u128::from(desk.withdrawn));
+    let open = desk.open_count() as u128;
+    2 * meetings + withdrawn + open <= u128::from(desk.next_ticket.0)
 }
 
 fn party_in_form(desk: &Desk, party: usize) -> bool {

@@ -1,4 +1,4 @@
-//! Reading one line of a script. No command means that it is malformed.
+//! Reading the lines of a script. No command means that a line is malformed.
 
 use crate::call::Call;
 use crate::guard::{Action, Guard};
@@ -10,9 +10,25 @@ pub enum Command {
     Call(Call),
 }
 
+const LONGEST_LINE: usize = 200;
+
+/// The commands of a script, line by line.
+pub fn commands(input: &[u8]) -> impl Iterator<Item = Option<Command>> + '_ {
+    input.split_inclusive(|&byte| byte == b'\n').map(command)
+}
+
+/// No command for an unended, an overlong or a malformed line.
+fn command(line: &[u8]) -> Option<Command> {
+    let ended = line.strip_suffix(b"\n")?;
+    if ended.len() > LONGEST_LINE {
+        return None;
+    }
+    read(ended)
+}
+
 /// Reads a line without its ending byte. Fields are parted by one space each,
 /// so that a doubled, leading or trailing space makes an empty field.
-pub fn read(line: &[u8]) -> Option<Command> {
+fn read(line: &[u8]) -> Option<Command> {
     let fields: Vec<&[u8]> = line.split(|&byte| byte == b' ').collect();
     let call = match fields.as_slice() {
         [b"n", count] => return new(count, None),

@@ -78,6 +78,9 @@ fn try_partner(desk: &mut Desk, p: usize, own: usize) -> Place {
     if partner.wake_count == 0 {
         if let Some(kept) = best_match(p, &guard, &partner.posted) {
             partner.wake_count = 1;
+            // In form twice `meetings` is at most the next ticket, which has 32
+            // bits, so one more fits into 64.
+            desk.meetings += 1;
             return Place::Committed { own, kept };
         }
     }

@@ -2,16 +2,14 @@
 
 use crate::call::Call;
 use crate::desk::{Desk, Withdrawal};
-use crate::line::{read, Command};
+use crate::line::{commands, Command};
 use crate::refusal::Refusal;
-
-const LONGEST_LINE: usize = 200;
 
 pub fn run(input: &[u8]) -> Vec<u8> {
     let mut desk = None;
     let mut output = Vec::new();
-    for line in input.split_inclusive(|&byte| byte == b'\n') {
-        let text = match answer(&mut desk, line) {
+    for command in commands(input) {
+        let text = match answer(&mut desk, command) {
             Ok(text) => text,
             Err(refusal) => format!("x {}", refusal.number()),
         };
@@ -21,10 +19,9 @@ pub fn run(input: &[u8]) -> Vec<u8> {
     output
 }
 
-/// Carries out one line, with its ending byte if it has one.
-fn answer(desk: &mut Option<Desk>, line: &[u8]) -> Result<String, Refusal> {
-    let command = command(line).ok_or(Refusal::MalformedLine)?;
-    match (command, desk) {
+/// Carries out one line; without a command it is malformed.
+fn answer(desk: &mut Option<Desk>, command: Option<Command>) -> Result<String, Refusal> {
+    match (command.ok_or(Refusal::MalformedLine)?, desk) {
         (Command::New { n, nap }, desk) => {
             *desk = Some(Desk::new(n, nap)?);
             Ok(format!("n {n}"))
@@ -32,15 +29,6 @@ fn answer(desk: &mut Option<Desk>, line: &[u8]) -> Result<String, Refusal> {
         (Command::Call(call), Some(desk)) => answer_call(desk, call),
         (Command::Call(_), None) => Err(Refusal::MalformedLine),
     }
-}
-
-/// No command for an unended, an overlong or a malformed line.
-fn command(line: &[u8]) -> Option<Command> {
-    let ended = line.strip_suffix(b"\n")?;
-    if ended.len() > LONGEST_LINE {
-        return None;
-    }
-    read(ended)
 }
 
 fn answer_call(desk: &mut Desk, call: Call) -> Result<String, Refusal> {

@@ -16,6 +16,10 @@ pub struct Desk {
     /// The nap length: a sleeper leaves S at its own step of this number there.
     pub nap: u8,
     pub next_ticket: Ticket,
+    /// The commits so far.
+    pub meetings: u64,
+    /// The offers withdrawn so far.
+    pub withdrawn: u64,
     pub parties: [Party; MOST_PARTIES],
 }
 
@@ -40,6 +44,8 @@ impl Desk {
             n,
             nap,
             next_ticket: Ticket(0),
+            meetings: 0,
+            withdrawn: 0,
             parties: [Party::FRESH; MOST_PARTIES],
         })
     }
@@ -100,6 +106,8 @@ impl Desk {
             _ => {
                 record.wake_count = 1;
                 record.place = Place::Idle;
+                // In form this is at most the next ticket, so one more fits.
+                self.withdrawn += 1;
                 Ok(Withdrawal::Withdrawn)
             }
         };

@@ -7,6 +7,15 @@ pub fn in_form(desk: &Desk) -> bool {
     (2..=32).contains(&desk.n)
         && desk.nap > 0
         && (0..desk.n).all(|party| party_in_form(desk, party))
+        && totals_in_form(desk)
+}
+
+/// The offers met, withdrawn and open are no more than the tickets given. The
+/// sum of damaged counters may need more than 64 bits.
+fn totals_in_form(desk: &Desk) -> bool {
+    let (meetings, withdrawn) = (u128::from(desk.meetings), u128::from(desk.withdrawn));
+    let open = (0..desk.n).filter(|&party| desk.party(party).is_open());
+    2 * meetings + withdrawn + open.count() as u128 <= u128::from(desk.next_ticket.0)
 }
 
 fn party_in_form(desk: &Desk, party: u8) -> bool {

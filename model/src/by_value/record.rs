@@ -135,4 +135,14 @@ impl Party {
         signal: None,
         place: Place::Idle,
     };
+
+    /// Has this party an open offer?
+    pub fn is_open(&self) -> bool {
+        match self.place {
+            Place::Entering | Place::Scanning(_) | Place::Trying(_) => true,
+            Place::Posting | Place::Opening | Place::Asleep(_) => true,
+            Place::Showing | Place::Waiting => self.wake_count == 0,
+            Place::Idle | Place::Committed { .. } | Place::Met(_) => false,
+        }
+    }
 }

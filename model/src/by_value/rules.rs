@@ -83,6 +83,8 @@ fn try_partner(desk: &mut Desk, p: u8, own: u8) -> Place {
     if partner.wake_count == 0 {
         if let Some(kept) = best_match(p, &guard, &partner.posted) {
             partner.wake_count = 1;
+            // In form this is at most half the next ticket, so one more fits.
+            desk.meetings += 1;
             return Place::Committed { own, kept };
         }
     }

@@ -2,9 +2,9 @@
 //! answers and the same desks, on damaged desks and along random runs.
 
 use crate::draw::Draw;
-use crate::tools::fresh_with_nap;
+use crate::tools::{fresh_with_nap, receive, total};
 use model::by_value;
-use model::{Desk, Guard, IndexedMessage, Party, Place};
+use model::{Desk, Guard, IndexedMessage, Party, Place, Refusal, Ticket};
 
 /// An index or a party as a byte; what does not fit is past every list.
 fn byte(number: usize) -> u8 {
@@ -76,6 +76,8 @@ fn value_of(desk: &Desk) -> by_value::Desk {
         n: byte(desk.n),
         nap: desk.nap,
         next_ticket: desk.next_ticket,
+        meetings: desk.meetings,
+        withdrawn: desk.withdrawn,
         parties,
     }
 }
@@ -120,6 +122,30 @@ pub fn compare_movers(desk: &Desk) {
     assert_eq!(after, value_of(desk));
 }
 
+/// Both models make every call that names this party, each on a copy.
+pub fn compare_each(desk: &Desk, party: u8) {
+    compare_movers(desk);
+    compare_offer(&mut desk.clone(), party, &[receive(0)]);
+    compare_step(&mut desk.clone(), party);
+    compare_collect(&mut desk.clone(), party);
+    compare_withdraw(&mut desk.clone(), party);
+}
+
+/// Both models refuse every call by 7, whatever else is wrong with it.
+pub fn check_out_of_form(desk: &Desk) {
+    let refused = Refusal::OutOfForm;
+    for party in [0, 1, 2, 255] {
+        compare_each(desk, party);
+        let (mut after, party) = (desk.clone(), usize::from(party));
+        assert_eq!(after.offer(party, &[]), Err(refused));
+        assert_eq!(after.step(party), Err(refused));
+        assert_eq!(after.collect(party), Err(refused));
+        assert_eq!(after.withdraw(party), Err(refused));
+        assert_eq!(after.movers(), Err(refused));
+        assert_eq!(after, *desk);
+    }
+}
+
 #[test]
 fn fresh_desks() {
     for n in 0..=255 {
@@ -159,8 +185,32 @@ fn compare_desks(seed: u64, wild: usize, desks: usize) {
     }
 }
 
-/// Puts one thing of a party, or the nap length, just past what refusal 7 allows.
+/// Puts one thing just past what refusal 7 allows.
 fn damage(draw: &mut Draw, desk: &mut Desk) {
+    if draw.random.one_in(8) {
+        damage_totals(draw, desk);
+    } else {
+        // The party may come to have an open offer, which has to be no fault.
+        (desk.meetings, desk.withdrawn) = (0, 0);
+        desk.next_ticket = Ticket(u32::MAX);
+        damage_party(draw, desk);
+        assert!(total(desk) <= u128::from(u32::MAX));
+    }
+}
+
+/// Puts the next ticket or one of the counters just past the edge.
+fn damage_totals(draw: &mut Draw, desk: &mut Desk) {
+    let next = u128::from(desk.next_ticket.0);
+    let room = (next - total(desk)) as u64;
+    match draw.random.below(3) {
+        0 if total(desk) > 0 => desk.next_ticket = Ticket((total(desk) - 1) as u32),
+        1 => desk.meetings += room / 2 + 1,
+        _ => desk.withdrawn += room + 1,
+    }
+}
+
+/// Puts one thing of a party, or the nap length, just past the edge.
+fn damage_party(draw: &mut Draw, desk: &mut Desk) {
     let number = draw.random.below(desk.n);
     let fault = draw.random.below(11);
     let (n, partner) = (desk.n, desk.parties[number].guards[0].partner);
@@ -233,6 +283,7 @@ fn random_runs() {
             let mut desk = fresh_with_nap(n, nap);
             for _ in 0..1500 {
                 compare_call(&mut draw, &mut desk);
+                assert_eq!(total(&desk), u128::from(desk.next_ticket.0));
             }
         }
     }

@@ -25,6 +25,7 @@ fn check_calls(draw: &mut Draw, desk: &Desk) -> bool {
     let out_of_form = refused(desk, &[7], |d| d.movers()) == 7;
     let open = desk.open_offers();
     assert!(open.iter().all(|offer| offer.party < desk.n));
+    assert_eq!(desk.open_count(), open.len());
     assert_eq!(desk.at_rest(), movers == Ok(0));
     for party in [0, 1, 2, 3, 4, 5, 31, 32, 255, usize::MAX] {
         let guards = draw.list(party.min(255), desk.n.min(255));

@@ -152,19 +152,39 @@ impl Draw {
             true => self.random.below(40),
             false => n + self.random.below(2),
         };
-        let next = match self.random.one_in(3) {
-            true => u32::MAX,
-            false => self.random.bits(),
-        };
         let mut desk = Desk {
             n,
             nap: self.nap(),
-            next_ticket: Ticket(next),
+            next_ticket: Ticket(0),
+            meetings: 0,
+            withdrawn: 0,
             parties: (0..records).map(|party| self.party(party, n)).collect(),
         };
         for party in 0..records {
             desk.parties[party].place = self.place(&desk, party);
         }
+        self.totals(&mut desk);
         desk
+    }
+
+    /// A next ticket and counters that leave room for the open offers, often
+    /// none for one more; or counters of any size.
+    fn totals(&mut self, desk: &mut Desk) {
+        let open = desk.open_count() as u32;
+        let next = [u32::MAX, self.random.bits(), open, open + 1, 40][self.random.below(5)];
+        desk.next_ticket = Ticket(next.max(open));
+        let room = desk.next_ticket.0 - open;
+        desk.meetings = self.count(room / 2);
+        let met = 2 * desk.meetings.min(u64::from(room / 2)) as u32;
+        desk.withdrawn = self.count(room - met);
+    }
+
+    /// A count up to this one, often the first or the last, or anything.
+    fn count(&mut self, most: u32) -> u64 {
+        let most = u64::from(most);
+        match self.is_wild() {
+            true => [most + 1, 1 << 63, u64::MAX, self.random.word()][self.random.below(4)],
+            false => [0, most, self.random.word() % (most + 1)][self.random.below(3)],
+        }
     }
 }

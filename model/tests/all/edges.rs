@@ -13,6 +13,7 @@ fn party_counts() {
         let desk = fresh(n);
         assert_eq!((desk.n, desk.parties.len()), (n, n));
         assert_eq!(desk.next_ticket, Ticket(0));
+        assert_eq!((desk.meetings, desk.withdrawn), (0, 0));
         for party in &desk.parties {
             assert_eq!(party.place, Place::Idle);
             assert!(party.guards.is_empty() && party.posted.is_empty());

@@ -1,11 +1,11 @@
 //! Refusal 7: what it looks at, and what it leaves alone.
 
-use crate::tools::{disabled, fresh, indexed, of_kind, of_rank, receive, send};
+use crate::tools::{disabled, fresh, indexed, of_kind, of_rank, receive, send, with_tickets_given};
 use model::{Desk, Message, Party, Place, Refusal, Ticket};
 
-/// Three parties in form, all with lists; party 0 is idle.
+/// Three idle parties in form, all with lists; each may be given an open offer.
 fn desk() -> Desk {
-    let mut desk = fresh(3);
+    let mut desk = with_tickets_given(3, fresh(3));
     desk.parties[0].guards = vec![receive(1), receive(2)];
     desk.parties[0].posted = vec![receive(2), receive(1), receive(1)];
     desk.parties[1].guards = vec![receive(0)];

@@ -1,5 +1,5 @@
 //! All tests of the model in one program. Expected values come from document 01
-//! and requests 1 to 3 and 5 of document 02, or from the reasoning written
+//! and requests 1 to 3, 5 and 6 of document 02, or from the reasoning written
 //! beside them.
 
 mod book;
@@ -18,6 +18,8 @@ mod refusals;
 mod rules;
 mod runs;
 mod script;
+mod sheet;
 mod tools;
+mod totals;
 mod values;
 mod withdraw;

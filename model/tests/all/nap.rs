@@ -1,29 +1,20 @@
 //! Naps: how long a sleeper stays, what it shows meanwhile, which desks are
 //! made, and what refusal 7 says. Both models make every step here.
 
-use crate::by_value::{
-    compare_collect, compare_movers, compare_offer, compare_step, compare_withdraw,
+use crate::by_value::{check_out_of_form, compare_each, compare_movers, compare_withdraw};
+use crate::tools::{
+    check_script, disabled, fresh_with_nap, outcome, receive, send, steps, with_tickets_given,
 };
-use crate::tools::{check_script, disabled, fresh_with_nap, receive, send, steps};
 use model::script::run;
-use model::{by_value, Desk, Guard, Message, Outcome, Place, Refusal, Ticket, Withdrawal, Word};
+use model::{by_value, Desk, Guard, Message, Place, Refusal, Ticket, Withdrawal, Word};
 
 const SEVEN: Message = Message::Whole(7);
-
-/// Both models make every call that names this party, each on a copy.
-fn compare(desk: &Desk, party: u8) {
-    compare_movers(desk);
-    compare_offer(&mut desk.clone(), party, &[receive(0)]);
-    compare_step(&mut desk.clone(), party);
-    compare_collect(&mut desk.clone(), party);
-    compare_withdraw(&mut desk.clone(), party);
-}
 
 /// Steps one party in both models and gives the answers as the script writes
 /// them.
 fn step_both(desk: &mut Desk, party: u8, count: usize) -> Vec<String> {
     let step = |_| {
-        compare(desk, party);
+        compare_each(desk, party);
         steps(desk, party.into(), 1)
     };
     (0..count).flat_map(step).collect()
@@ -165,6 +156,7 @@ fn a_sleeper_withdraws_through_the_whole_nap() {
         let mut expected = desk.clone();
         expected.parties[1].wake_count = 1;
         expected.parties[1].place = Place::Idle;
+        expected.withdrawn = 1;
         assert_eq!(desk.withdraw(1), Ok(Withdrawal::Withdrawn));
         assert_eq!(desk, expected);
     }
@@ -228,13 +220,8 @@ fn check_rounds(nap: u8, rounds: [&str; 6]) {
     for answers in rounds {
         assert_eq!(round(&mut desk, 2), answers);
     }
-    let outcome = |partner, message| Outcome {
-        index: 0,
-        partner,
-        message,
-    };
-    assert_eq!(desk.collect(0), Ok(outcome(1, Message::Nothing)));
-    assert_eq!(desk.collect(1), Ok(outcome(0, SEVEN)));
+    assert_eq!(desk.collect(0), Ok(outcome(0, 1, Message::Nothing)));
+    assert_eq!(desk.collect(1), Ok(outcome(0, 0, SEVEN)));
     assert!(desk.at_rest());
 }
 
@@ -378,21 +365,6 @@ fn every_nap_length_is_read_as_written() {
     }
 }
 
-/// Both models refuse every call by 7, whatever else is wrong with it.
-fn check_out_of_form(desk: &Desk) {
-    let refused = Refusal::OutOfForm;
-    for party in [0, 1, 2, 255] {
-        compare(desk, party);
-        let (mut after, party) = (desk.clone(), usize::from(party));
-        assert_eq!(after.offer(party, &[]), Err(refused));
-        assert_eq!(after.step(party), Err(refused));
-        assert_eq!(after.collect(party), Err(refused));
-        assert_eq!(after.withdraw(party), Err(refused));
-        assert_eq!(after.movers(), Err(refused));
-        assert_eq!(after, *desk);
-    }
-}
-
 #[test]
 fn a_desk_without_a_nap_length_is_out_of_form() {
     let mut desk = fresh_with_nap(2, 1);
@@ -411,14 +383,14 @@ fn a_sleeper_past_its_nap_is_out_of_form() {
         check_out_of_form(&asleep_after(255, nap));
         let last = asleep_after(nap - 1, nap);
         assert!(last.movers().is_ok());
-        compare(&last, 1);
+        compare_each(&last, 1);
     }
 }
 
 #[test]
 fn every_party_below_n_is_looked_at_and_no_other_record() {
     for party in [0, 1, 30, 31] {
-        let mut desk = fresh_with_nap(32, 2);
+        let mut desk = with_tickets_given(1, fresh_with_nap(32, 2));
         desk.parties[party].place = Place::Asleep(2);
         check_out_of_form(&desk);
         desk.parties[party].place = Place::Asleep(1);
@@ -429,5 +401,5 @@ fn every_party_below_n_is_looked_at_and_no_other_record() {
     desk.parties[31].place = Place::Asleep(255);
     desk.n = 31;
     assert_eq!(desk.movers(), Ok(0));
-    compare(&desk, 1);
+    compare_each(&desk, 1);
 }

@@ -1,6 +1,6 @@
 //! Every order of calls, for a few small sets of offers and withdrawals.
 
-use crate::tools::{fresh_with_nap, of_kind, of_rank, receive, send};
+use crate::tools::{check_totals, fresh_with_nap, of_kind, of_rank, receive, send};
 use model::{Book, Call, Desk, Guard, Message, Moment, Ticket, Told};
 use std::collections::BTreeSet;
 
@@ -52,6 +52,7 @@ impl<'a> Scene<'a> {
     fn check(&self) {
         let open = self.desk.open_offers();
         assert_eq!(open, self.book.open_offers());
+        check_totals(&self.desk, &self.book);
         let closed = self.book.moments().iter().flat_map(Moment::tickets);
         let mut tickets: Vec<Ticket> = closed.chain(open.iter().map(|o| o.ticket)).collect();
         tickets.sort();

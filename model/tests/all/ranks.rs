@@ -4,7 +4,7 @@
 use crate::by_value::compare_step;
 use crate::tools::{
     about_to_try, disabled, enter_commit, enter_offer, fresh, indexed, of_kind, of_rank, outcome,
-    receive, send, steps, Xorshift,
+    receive, send, steps, with_tickets_given, Xorshift,
 };
 use model::guard::{best_match, guards_match, lists_match};
 use model::{Book, Desk, Entry, Guard, Meeting, Message, Place, Stuck, Ticket};
@@ -109,7 +109,7 @@ fn check_book(list: &[Choice]) {
 
 /// Party 0 tries party 1, which has posted the list, on both desks.
 fn check_desks(list: &[Choice]) {
-    let mut desk = fresh(3);
+    let mut desk = with_tickets_given(2, fresh(3));
     desk.parties[0].guards = vec![receive(1)];
     desk.parties[0].place = Place::Trying(0);
     desk.parties[1].posted = guards(list);

@@ -1,6 +1,6 @@
 //! Each refusal but 7 and 8: its condition and its order against others.
 
-use crate::tools::{disabled, fresh, indexed, receive, send};
+use crate::tools::{disabled, fresh, indexed, receive, send, with_tickets_given};
 use model::{Desk, Guard, Message, Place, Refusal, Ticket};
 
 fn nan() -> Message {
@@ -24,8 +24,9 @@ fn busy_places() -> Vec<Place> {
     ]
 }
 
+/// Its one ticket is that of party 0's offer.
 fn desk_with_party_0_at(place: Place) -> Desk {
-    let mut desk = fresh(3);
+    let mut desk = with_tickets_given(1, fresh(3));
     desk.parties[0].guards = vec![receive(1)];
     desk.parties[1].posted = vec![send(0, Message::Whole(4))];
     desk.parties[0].place = place;
@@ -83,7 +84,7 @@ fn not_numbers() -> Vec<Vec<Guard>> {
 #[test]
 fn offers_are_refused_in_order() {
     for place in [vec![Place::Idle], busy_places()].concat() {
-        for next_ticket in [Ticket(0), Ticket(u32::MAX)] {
+        for next_ticket in [Ticket(1), Ticket(u32::MAX)] {
             let mut desk = desk_with_party_0_at(place);
             desk.next_ticket = next_ticket;
             let before = desk.clone();
@@ -94,7 +95,7 @@ fn offers_are_refused_in_order() {
             }
             // A good list: 11 first, then 12.
             let late = match (place, next_ticket) {
-                (Place::Idle, Ticket(0)) => continue,
+                (Place::Idle, Ticket(1)) => continue,
                 (Place::Idle, _) => Refusal::TicketsUsedUp,
                 _ => Refusal::NotIdle,
             };
@@ -109,6 +110,7 @@ fn an_accepted_offer_changes_four_things() {
     let mut desk = desk_with_party_0_at(Place::Idle);
     // Leftovers that an offer must not touch.
     desk.next_ticket = Ticket(9);
+    (desk.meetings, desk.withdrawn) = (2, 5);
     desk.parties[0].wake_count = 0;
     desk.parties[0].signal = Some(indexed(0, Message::Whole(3)));
     desk.parties[0].posted = vec![receive(2), receive(1)];
@@ -161,7 +163,8 @@ fn collections_are_refused_unless_met() {
 
 #[test]
 fn an_accepted_collection_changes_the_place_alone() {
-    let mut desk = fresh(3);
+    let mut desk = with_tickets_given(9, fresh(3));
+    (desk.meetings, desk.withdrawn) = (2, 5);
     // On a damaged desk even NaN and a disabled guard come out as they are.
     let message = Message::Reading(f32::from_bits(0x7f80_0001));
     desk.parties[0].guards = vec![receive(1), disabled(receive(2))];

@@ -10,6 +10,7 @@ const SEVEN: Message = Message::Whole(7);
 fn desk_with_party_1_at(place: Place) -> Desk {
     let mut desk = fresh(3);
     desk.next_ticket = Ticket(30);
+    (desk.meetings, desk.withdrawn) = (8, 11);
     for (party, ticket) in [(0, 10), (1, 20), (2, 20)] {
         desk.parties[party].ticket = Ticket(ticket);
     }
@@ -132,6 +133,7 @@ fn rule_7_commits() {
         move |d: &mut Desk| {
             d.parties[0].wake_count = 1;
             d.parties[1].place = Place::Committed { own, kept };
+            d.meetings = 9;
         }
     };
     // Neither the word nor the place of the partner is looked at again.

@@ -1,6 +1,6 @@
 //! Many random lists of calls, each compared with the book along the run.
 
-use crate::tools::{fresh_with_nap, Xorshift};
+use crate::tools::{check_totals, fresh_with_nap, Xorshift};
 use model::guard::guards_match;
 use model::{
     Action, Answer, Book, Call, Desk, Entry, Given, Guard, Meeting, Message, Moment, Place,
@@ -51,6 +51,7 @@ impl Run {
             Ok(given) => self.compare(given, entry, &before),
         }
         assert_eq!(self.desk.open_offers(), self.book.open_offers());
+        check_totals(&self.desk, &self.book);
     }
 
     /// Compares what an accepted call gave with what the book entered.
@@ -179,7 +180,7 @@ fn random_guard(random: &mut Xorshift, party: usize, n: usize) -> Guard {
     }
 }
 
-fn random_call(random: &mut Xorshift, n: usize) -> Call {
+pub fn random_call(random: &mut Xorshift, n: usize) -> Call {
     let party = match random.below(50) {
         0 => n + random.below(250),
         _ => random.below(n),

@@ -3,7 +3,7 @@
 use model::script::run;
 use model::{
     Action, Answer, Book, Call, Desk, Entry, Guard, IndexedMessage, Message, Outcome, Place, Stuck,
-    Told,
+    Ticket, Told,
 };
 
 /// A small random generator with a fixed seed, so that every run is the same.
@@ -83,6 +83,26 @@ pub fn outcome(index: usize, partner: usize, message: Message) -> Outcome {
     }
 }
 
+/// Each place of a party with one guard, and whether its offer is open with wake
+/// count 0 and with wake count 1.
+pub fn places_with_open() -> [(Place, bool, bool); 11] {
+    let met = Place::Met(indexed(0, Message::Nothing));
+    let committed = Place::Committed { own: 0, kept: 0 };
+    [
+        (Place::Idle, false, false),
+        (Place::Entering, true, true),
+        (Place::Scanning(0), true, true),
+        (Place::Trying(0), true, true),
+        (committed, false, false),
+        (Place::Posting, true, true),
+        (Place::Opening, true, true),
+        (Place::Showing, true, false),
+        (Place::Asleep(0), true, true),
+        (Place::Waiting, true, false),
+        (met, false, false),
+    ]
+}
+
 /// A fresh desk with the shortest nap.
 pub fn fresh(n: usize) -> Desk {
     fresh_with_nap(n, 1)
@@ -90,6 +110,29 @@ pub fn fresh(n: usize) -> Desk {
 
 pub fn fresh_with_nap(n: usize, nap: u8) -> Desk {
     Desk::new(n, nap).expect("2 to 32 parties with a nap of 1 or more are made")
+}
+
+/// The desk with so many tickets given, so that a test may put as many parties
+/// where offers are open.
+pub fn with_tickets_given(tickets: u32, mut desk: Desk) -> Desk {
+    desk.next_ticket = Ticket(tickets);
+    desk
+}
+
+/// The sum that request 6 holds against the next ticket.
+pub fn total(desk: &Desk) -> u128 {
+    let open = desk.open_offers().len() as u128;
+    2 * u128::from(desk.meetings) + u128::from(desk.withdrawn) + open
+}
+
+/// Request 6's equation on a desk reached from a fresh one, and the counters of
+/// the desk against the book's run.
+pub fn check_totals(desk: &Desk, book: &Book) {
+    assert_eq!(total(desk), u128::from(desk.next_ticket.0), "{desk:?}");
+    let meetings = book.meetings().count();
+    let withdrawals = book.moments().len() - meetings;
+    let counted = (desk.meetings, desk.withdrawn);
+    assert_eq!(counted, (meetings as u64, withdrawals as u64));
 }
 
 /// Steps one party and gives the answers as the script writes them.

@@ -1,6 +1,6 @@
 //! Messages by their bits, words, and what it means to match.
 
-use crate::tools::{disabled, fresh, indexed, receive, send};
+use crate::tools::{disabled, fresh, indexed, places_with_open, receive, send};
 use model::guard::{best_match, guards_match, lists_match};
 use model::{Message, Place, Word};
 
@@ -104,29 +104,15 @@ fn the_search_gives_the_first_match_of_equal_rank() {
 
 #[test]
 fn open_offers_follow_from_place_and_wake_count() {
-    let met = Place::Met(indexed(0, Message::Nothing));
-    let committed = Place::Committed { own: 0, kept: 0 };
-    let table = [
-        (Place::Idle, false, false),
-        (Place::Entering, true, true),
-        (Place::Scanning(0), true, true),
-        (Place::Trying(0), true, true),
-        (committed, false, false),
-        (Place::Posting, true, true),
-        (Place::Opening, true, true),
-        (Place::Showing, true, false),
-        (Place::Asleep(0), true, true),
-        (Place::Waiting, true, false),
-        (met, false, false),
-    ];
     let mut desk = fresh(2);
     desk.parties[1].guards = vec![receive(0)];
-    for (place, open_at_0, open_at_1) in table {
+    for (place, open_at_0, open_at_1) in places_with_open() {
         for (wake_count, open) in [(0, open_at_0), (1, open_at_1)] {
             desk.parties[1].place = place;
             desk.parties[1].wake_count = wake_count;
             let offers = desk.open_offers();
             assert_eq!(offers.len(), usize::from(open), "{place:?} {wake_count}");
+            assert_eq!(desk.open_count(), offers.len());
             assert!(offers
                 .iter()
                 .all(|o| o.party == 1 && o.guards == [receive(0)]));

@@ -31,6 +31,7 @@ fn table() -> [(Place, Answer, Answer); 11] {
 fn desk_with_party_1_at(place: Place, wake_count: u8) -> Desk {
     let mut desk = fresh(3);
     desk.next_ticket = Ticket(30);
+    (desk.meetings, desk.withdrawn) = (8, 11);
     desk.parties[0].guards = vec![send(1, SEVEN)];
     desk.parties[0].posted = vec![send(1, SEVEN)];
     desk.parties[0].place = Place::Trying(0);
@@ -50,6 +51,7 @@ fn check(desk: &Desk, answer: Answer) {
     if answer == Ok(Withdrawal::Withdrawn) {
         expected.parties[1].wake_count = 1;
         expected.parties[1].place = Place::Idle;
+        expected.withdrawn = 12;
     }
     let mut after = desk.clone();
     assert_eq!(after.withdraw(1), answer, "{desk:?}");
