@@ -1,6 +1,6 @@
 -- The book follows a commit, and so every step.
 use Prim.Native.Nat.{ℕ, suc, _+_, _<_}
-use mathlib.Core.Path.{_≡_, refl, sym, _∙_, ap, subst, subst⁻¹}
+use mathlib.Core.Path.{_≡_, refl, sym, _∙_, subst, subst⁻¹}
 use mathlib.Core.Bool.{Bool, true, false, cond, true≢false, false≢true}
 use mathlib.Core.List.{List, [], _∷_}
 use mathlib.Core.Option.{some, none}
@@ -23,12 +23,12 @@ use Rattle.history.specs.Book.{Transaction, Rendezvous, Moment, Joined, 
 use Rattle.history.specs.Tables.{offerBy}
 use Rattle.history.specs.Demand3.{Joins}
 use Rattle.history.specs.NothingLost.{isOwed}
-use Rattle.history.proofs.View.{View, upd, upd-same}
+use Rattle.history.proofs.View.{View, upd}
 use Rattle.history.proofs.Invariant.{Shows, Bound, Good}
 use Rattle.history.proofs.Matches.{Match, match, Searched, searched, on-there, NamesOther}
 use Rattle.history.proofs.Places.{shows-elim}
 use Rattle.history.proofs.Facts.{fine, at-names, shown, accepts, commit-binds, unbound}
-use Rattle.history.proofs.GoodTable.{put-two}
+use Rattle.history.proofs.GoodTable.{put-two, put-two-there}
 use Rattle.history.proofs.Once.{once-commits}
 use Rattle.history.proofs.Awaited.{hidden, awaited-commit}
 use Rattle.history.proofs.Due.{listsOf, DueAt, Agrees, InStepOf, InStep, agrees-other, offer-at, owed-at, each-two}
@@ -113,7 +113,7 @@ module _ {t : ProcessTable} (good : Good t) {b : History} (k : InStep t b) (p : 
       tried = rw e refl
 
       there : process (put (put t q (withAccepting y false)) p (atPlace x (Place.Committed i j))) p ≡ atPlace x (Place.Committed i j)
-      there = ap (λ (v : View). v p) (put-two good p (atPlace x (Place.Committed i j)) below q (withAccepting y false) (partner .below)) ∙ upd-same (upd (process t) q (withAccepting y false)) p (atPlace x (Place.Committed i j))
+      there = put-two-there good p (atPlace x (Place.Committed i j)) below q (withAccepting y false) (partner .below)
 
       matching : guardsMatch p g q h ≡ true
       matching = subst (Searched p g q (ownList y)) found (searched p g q (ownList y))

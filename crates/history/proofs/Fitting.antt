@@ -14,8 +14,8 @@ use Rattle.process.specs.Rules.{partnerOf}
 use Rattle.process.proofs.PlaceCases.{by-carried}
 use Rattle.process.specs.Fits.{placeFits, processFits}
 use Rattle.rendezvous.specs.declared.ProcessTable.{ProcessTable}
-use Rattle.rendezvous.specs.Table.{process}
-use Rattle.rendezvous.specs.WellFormed.{allBelow, countFits, napFits, fitsAt, wellFormed}
+use Rattle.rendezvous.specs.Table.{process, accountedFor}
+use Rattle.rendezvous.specs.WellFormed.{allBelow, countFits, napFits, fitsAt, totalsFit, wellFormed}
 use Rattle.history.proofs.Invariant.{PlaceFormed, Good}
 use Rattle.history.proofs.Matches.{match}
 use Rattle.history.proofs.Facts.{at-on, shown, commit-binds}
@@ -51,6 +51,6 @@ module _ (t : ProcessTable) (good : Good t) where
   process-fits p = rw (good .inv .alone p .own, good .formed p .posted, good .formed p .signal) (place-fits p)
 
   pub well-formed : wellFormed t ≡ true
-  unfolding wellFormed countFits napFits
+  unfolding wellFormed countFits napFits totalsFit
   well-formed = both _ _ (both _ _ (le-leb 2 (t .head .n) (good .least)) (le-leb (t .head .n) _ (omega (arith, good .most))))
-      (both _ _ (le-leb 1 (t .head .nap) (good .naps)) (all-below (fitsAt t) (t .head .n) process-fits))
+      (both _ _ (le-leb 1 (t .head .nap) (good .naps)) (both _ _ (all-below (fitsAt t) (t .head .n) process-fits) (le-leb (accountedFor t) (t .head .next .0) (omega (arith, good .totals)))))

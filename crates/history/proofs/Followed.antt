@@ -57,11 +57,11 @@ none-made : (b : Bool) (ms : List Moment) → ms ≡ [] → cond b ms [] ≡ []
 none-made true ms e = e
 none-made false ms e = refl
 
-stays-made : (t : ProcessTable) (p : ℕ) (pl : Place) → cond (isAt "T" pl) (commitAt t p pl) [] ≡ []
+pub stays-made : (t : ProcessTable) (p : ℕ) (pl : Place) → cond (isAt "T" pl) (commitAt t p pl) [] ≡ []
 stays-made t p pl = if-committed (λ ms. cond (isAt "T" pl) ms [] ≡ []) [] _ pl (λ i j e. rw e refl) (none-made (isAt "T" pl) [] refl)
 
 -- a withdrawal makes nothing that leaves the table as it is
-kept-made : (o : Bool) (ms : List Moment) → cond (o && not o) ms [] ≡ []
+pub kept-made : (o : Bool) (ms : List Moment) → cond (o && not o) ms [] ≡ []
 kept-made true ms = refl
 kept-made false ms = refl
 

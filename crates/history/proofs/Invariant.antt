@@ -1,5 +1,5 @@
 -- What holds of each process, and of each two, on every table that is reached.
-use Prim.Native.Nat.{ℕ, _≤_, _<_}
+use Prim.Native.Nat.{ℕ, _+_, _*_, _≤_, _<_}
 use mathlib.Core.Path.{_≡_}
 use mathlib.Core.List.{List}
 use mathlib.Core.Bool.{Bool, true, false}
@@ -14,8 +14,8 @@ use Rattle.process.specs.declared.State.{State}
 use Rattle.process.specs.declared.Process.{Process}
 use Rattle.rendezvous.specs.declared.Head.{Head}
 use Rattle.rendezvous.specs.declared.ProcessTable.{ProcessTable}
-use Rattle.process.specs.Process.{stateOf, indexOf, carried, ifCommitted, ownList, postedList, ownGuard, isIdle}
-use Rattle.rendezvous.specs.Table.{mostProcesses, process}
+use Rattle.process.specs.Process.{stateOf, indexOf, carried, ifCommitted, ownList, postedList, ownGuard, isIdle, isOpen}
+use Rattle.rendezvous.specs.Table.{mostProcesses, process, countBelow}
 use Rattle.process.specs.Fits.{listFits, signalFits}
 use Rattle.history.proofs.View.{View}
 
@@ -161,6 +161,13 @@ pub record Formed (n d p : ℕ) (x : Process) : Type 0 where
 abbrev pub AllFormed : ℕ → ℕ → View → Type 0
 AllFormed n d v = (p : ℕ) → Formed n d p (v p)
 
+-- the open offers below n, and that each ticket given out is accounted for: its offer has met, is withdrawn or is open
+abbrev pub openIn : View → ℕ → ℕ
+openIn v n = countBelow (λ p. isOpen (v p)) n
+
+abbrev pub Totalled : Head → View → Type 0
+Totalled h v = 2 * h .meetings + h .withdrawn + openIn v (h .n) ≡ h .next .0
+
 -- a table from which every list of calls goes well
 pub record Good (t : ProcessTable) : Type 0 where
   pub long : length (t .processes) ≡ mostProcesses
@@ -169,3 +176,4 @@ pub record Good (t : ProcessTable) : Type 0 where
   pub naps : 1 ≤ t .head .nap
   pub inv : Inv (t .head) (process t)
   pub formed : AllFormed (t .head .n) (t .head .nap) (process t)
+  pub totals : Totalled (t .head) (process t)

@@ -1,6 +1,7 @@
 pub mod Awaited
 pub mod Claimed
 pub mod Commit
+pub mod DaySheet
 pub mod Due
 pub mod EveryCall
 pub mod EveryList
@@ -26,5 +27,6 @@ pub mod Replies
 pub mod Rest
 pub mod Starred
 pub mod Tame
+pub mod Totals
 pub mod View
 pub mod Withdrawals

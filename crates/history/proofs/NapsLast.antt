@@ -15,7 +15,7 @@ use Rattle.process.specs.declared.Signal.{Signal}
 use Rattle.process.specs.declared.Place.{Place}
 use Rattle.process.specs.declared.State.{State}
 use Rattle.process.specs.declared.Process.{Process}
-use Rattle.process.specs.Process.{carried, letterOf, stateOf, indexOf, ownList, postedList, ownGuard}
+use Rattle.process.specs.Process.{carried, letterOf, isAt, stateOf, indexOf, ownList, postedList, ownGuard}
 use Rattle.process.specs.Rules.{Effect, Neither, Own, Both, scanAt, scanFrom, sleepAt, scan, try, handOver, absorb, ruleAt, rule, partnerOf}
 use Rattle.process.proofs.PlaceCases.{by-carried}
 use Rattle.process.proofs.OnlyTold.{OnlyTold, rule-only-told}
@@ -23,7 +23,7 @@ use Rattle.process.proofs.RuleLaws.{rule-at}
 use Rattle.rendezvous.specs.declared.ProcessTable.{ProcessTable}
 use Rattle.rendezvous.specs.declared.Answer.{Answer}
 use Rattle.rendezvous.specs.declared.Reply.{Reply}
-use Rattle.rendezvous.specs.Table.{process, put, freshTable}
+use Rattle.rendezvous.specs.Table.{process, put, withMeeting, freshTable}
 use Rattle.rendezvous.specs.Refusals.{processVerdict}
 use Rattle.rendezvous.specs.Numbers.{Said, place, said}
 use Rattle.rendezvous.specs.Calls.{entering, offered, effectOn, applied, stepped, step}
@@ -165,7 +165,11 @@ applied-nap : (t : ProcessTable) (p q : ℕ) (effect : Effect) → SameNap t (ap
 unfolding SameNap
 applied-nap t p q Neither = refl
 applied-nap t p q (Own x) = refl
-applied-nap t p q (Both x y) = refl
+applied-nap t p q (Both x y) = either (isAt "C" (x .place))
+  where
+    either : (met : Bool) → cond met (withMeeting (t .head)) (t .head) .nap ≡ t .head .nap
+    either true = refl
+    either false = refl
 
 nap-stays : (t : ProcessTable) (c : Call) → SameNap t (replyTo t c)
 unfolding SameNap replyTo offered stepped

@@ -49,6 +49,13 @@ pub put-inv : {head : Head} (v : View) (p : ℕ) (x : Process) → Inv head v �
     → ((r : ℕ) → (r ≡ p → ⊥) → Paired p r x (v r)) → ((r : ℕ) → (r ≡ p → ⊥) → Paired r p (v r) x) → Inv head (upd v p x)
 put-inv {head} v p x inv s a b = record { alone = entered-each (Alone head) v p x s (λ q _. inv .alone q); paired = upd-pair Paired v p x (inv .paired) a b }
 
+-- the totals do not matter to it
+pub recounted : {h : Head} {v : View} → Inv h v → (meetings withdrawn : ℕ) → Inv (record { n = h .n; nap = h .nap; next = h .next; meetings = meetings; withdrawn = withdrawn }) v
+recounted inv meetings withdrawn = record {
+  alone = λ p. let a = inv .alone p in record { fine = a .fine; own = a .own; on = a .on; there = a .there; given = a .given };
+  paired = inv .paired;
+}
+
 module _ {head : Head} (v : View) (inv : Inv head v) (p : ℕ) where
   pub held : Held v p → Bound (v p)
   held h = inv .paired (h .by) p (h .other) .bound (h .at) (h .kept) (h .there) (h .names) .0

@@ -14,3 +14,4 @@ pub mod NapCases
 pub mod KindCases
 pub mod GreatestRankKept
 pub mod RankCases
+pub mod DaySheet

@@ -4,7 +4,7 @@ use mathlib.Core.List.{map, flatten}
 use Rattle.alternative.specs.Guards.{offersMatch}
 use Rattle.process.specs.declared.Signal.{Signal}
 use Rattle.process.specs.Process.{freshProcess, ownList}
-use Rattle.rendezvous.specs.Table.{process, freshTable}
+use Rattle.rendezvous.specs.Table.{withHead, process, freshTable}
 use Rattle.rendezvous.specs.Numbers.{Said, made, ticket, same, outcome, withdrawn, movers, refusal}
 use Rattle.rendezvous.specs.Run.{Call, Offer, Step, tableAfter, tableAfterAll}
 use Rattle.rendezvous.specs.Commands.{Command, New, Do, Movers}
@@ -15,7 +15,7 @@ use Rattle.history.specs.Withdrawals.{withdraws}
 
 -- a table with another nap length
 abbrev pub withNap : ℕ → ProcessTable → ProcessTable
-withNap d t = record { head = record { n = t .head .n; nap = d; next = t .head .next }; processes = t .processes }
+withNap d t = let h = t .head in withHead t (record { n = h .n; nap = d; next = h .next; meetings = h .meetings; withdrawn = h .withdrawn })
 
 -- naps of d: process 0 is asleep after s own steps there, and its first enabled guard is its second; process 1 is at I
 abbrev asleep : ℕ → ℕ → ProcessTable

@@ -1,7 +1,7 @@
 -- To be believed. CR 1 of document 02, by cases: the answer at every place, what a withdrawal leaves, its refusals in order, the race with a commit, and the run of whole meetings.
 use mathlib.Core.List.{map}
 use Rattle.process.specs.declared.Signal.{Signal}
-use Rattle.rendezvous.specs.Table.{freshTable}
+use Rattle.rendezvous.specs.Table.{withHead, withWithdrawal, freshTable}
 use Rattle.rendezvous.specs.Numbers.{Said, made, ticket, outcome, withdrawn, tooLate, refusal}
 use Rattle.rendezvous.specs.Run.{Call, Offer, Step, Collect, Withdraw, tableAfter}
 use Rattle.rendezvous.specs.Commands.{Command, Do}
@@ -70,15 +70,19 @@ odd place accepting =
 abbrev left : Bool → Place → ProcessTable
 left accepting place = tableAfter (odd place accepting) (Withdraw 0)
 
--- "the wake count becomes 1, the party goes to I", and nothing else of the whole table changes: at E, A, T, P, O and S whatever the wake count was, at H and W where it was 0
+-- "the wake count becomes 1, the party goes to I", one withdrawal more is counted (CR 6), and nothing else of the whole table changes: at E, A, T, P, O and S whatever the wake count
+-- was, at H and W where it was 0
 abbrev scans : List Place
 scans = Place.Entering ∷ Place.Scanning 0 ∷ Place.Trying 0 ∷ Place.Posting ∷ Place.Opening ∷ Place.Asleep 0 ∷ []
 
 abbrev shows : List Place
 shows = Place.Showing ∷ Place.Waiting ∷ []
 
+abbrev gone : ProcessTable
+gone = let t = odd Place.Idle false in withHead t (withWithdrawal (t .head))
+
 abbrev Leaves : Bool → List Place → Type 0
-Leaves accepting places = map (left accepting) places ≡ map (λ place. odd Place.Idle false) places
+Leaves accepting places = map (left accepting) places ≡ map (λ place. gone) places
 
 -- "the answer is "too late" and nothing changes": at C whatever the wake count is, at H and W where it is 1
 abbrev Stays : Bool → List Place → Type 0
