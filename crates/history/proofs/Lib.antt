@@ -25,6 +25,7 @@ pub mod RankCases
 pub mod Ranked
 pub mod Replies
 pub mod Rest
+pub mod SheetCases
 pub mod Starred
 pub mod Tame
 pub mod Totals

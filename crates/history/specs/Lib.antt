@@ -15,3 +15,4 @@ pub mod KindCases
 pub mod GreatestRankKept
 pub mod RankCases
 pub mod DaySheet
+pub mod SheetCases

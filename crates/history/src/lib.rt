@@ -10,6 +10,7 @@ ghost use Rattle.history.specs.KindCases.{KindCases};
 ghost use Rattle.history.specs.GreatestRankKept.{GreatestRankKept};
 ghost use Rattle.history.specs.RankCases.{RankCases};
 ghost use Rattle.history.specs.DaySheet.{DaySheet};
+ghost use Rattle.history.specs.SheetCases.{SheetCases};
 ghost use Rattle.history.specs.NapsLast.{NapsLast};
 ghost use Rattle.history.specs.NapCases.{NapCases};
 
@@ -82,4 +83,9 @@ pub fn nap_cases()
 // Carries the claim that the day sheet adds up: after every list of calls offers = 2 × meetings + withdrawn + open, with the totals of the run and of the accepted offers.
 pub fn day_sheet()
     ensures { λ _. ⌜ DaySheet ⌝ }
+{}
+
+// Carries the cases of the day sheet: in each of them the definitions say what document 02 says.
+pub fn sheet_cases()
+    ensures { λ _. ⌜ SheetCases ⌝ }
 {}
