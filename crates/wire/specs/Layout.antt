@@ -8,7 +8,7 @@ abbrev pub wordLength : ℕ
 wordLength = 4
 
 abbrev pub longLength : ℕ
-longLength = wordLength + wordLength
+longLength = 2 * wordLength
 
 -- a message: the variant, two words
 abbrev pub firstAt : ℕ

@@ -5,7 +5,7 @@ use rendezvous::MOST_PROCESSES;
 // A word, which is a number of 32 bits, and a number of 64 bits, which is two words: the lowest byte first.
 pub const WORD_BYTES: usize = 4;
 
-pub const LONG_BYTES: usize = WORD_BYTES + WORD_BYTES;
+pub const LONG_BYTES: usize = 2 * WORD_BYTES;
 
 // A message: its variant, two words.
 pub const FIRST_AT: usize = 1;
