@@ -1,6 +1,6 @@
 /* The proved library for C: the calls on a process table and the script program, on lent bytes. A program includes this file and links
    libexports.a. Every function of the library is proved for all arguments; what each gives is defined in crates/wire/specs and
-   crates/exports/specs. The six at the end, which only lay bytes out, are C.
+   crates/exports/specs. The ten at the end, which only read bytes and lay them out, are C.
 
    docs/BYTES.md has the bytes of a table, a guard, an answer and a session. Any bytes, RENDEZVOUS_TABLE_BYTES of them, are a table. A
    call that changes nothing, a refused one among them, writes the table that it read: the same bytes, but for such as no call writes
@@ -27,6 +27,7 @@
 #define RENDEZVOUS_PROCESSES 32 /* the records of a table */
 #define RENDEZVOUS_GUARDS 8     /* the slots of a list of guards */
 #define RENDEZVOUS_WORD_BYTES 4
+#define RENDEZVOUS_LONG_BYTES (2 * RENDEZVOUS_WORD_BYTES) /* a number of 64 bits */
 
 #define RENDEZVOUS_MESSAGE_VARIANT 0
 #define RENDEZVOUS_MESSAGE_FIRST 1
@@ -59,7 +60,9 @@
 #define RENDEZVOUS_HEAD_COUNT 0
 #define RENDEZVOUS_HEAD_NAP 1
 #define RENDEZVOUS_HEAD_NEXT 2
-#define RENDEZVOUS_HEAD_BYTES (RENDEZVOUS_HEAD_NEXT + RENDEZVOUS_WORD_BYTES)
+#define RENDEZVOUS_HEAD_MEETINGS (RENDEZVOUS_HEAD_NEXT + RENDEZVOUS_WORD_BYTES)
+#define RENDEZVOUS_HEAD_WITHDRAWN (RENDEZVOUS_HEAD_MEETINGS + RENDEZVOUS_LONG_BYTES)
+#define RENDEZVOUS_HEAD_BYTES (RENDEZVOUS_HEAD_WITHDRAWN + RENDEZVOUS_LONG_BYTES)
 #define RENDEZVOUS_TABLE_BYTES (RENDEZVOUS_HEAD_BYTES + RENDEZVOUS_PROCESSES * RENDEZVOUS_RECORD_BYTES)
 
 #define RENDEZVOUS_NOTHING 0 /* variants of messages */
@@ -138,7 +141,7 @@ float rendezvous_reading_through(float x);
 float rendezvous_low_through(float low, float high);
 float rendezvous_high_through(float low, float high);
 
-/* A word of an answer or a message. */
+/* A word of a table, an answer or a message. */
 static inline uint32_t rendezvous_word(const uint8_t *bytes) {
     return bytes[0] | (uint32_t)bytes[1] << 8 | (uint32_t)bytes[2] << 16 | (uint32_t)bytes[3] << 24;
 }
@@ -146,6 +149,20 @@ static inline uint32_t rendezvous_word(const uint8_t *bytes) {
 static inline void rendezvous_put_word(uint8_t *bytes, uint32_t word) {
     for (int k = 0; k < RENDEZVOUS_WORD_BYTES; k++) bytes[k] = word >> 8 * k;
 }
+
+/* A number of 64 bits of a table. */
+static inline uint64_t rendezvous_long(const uint8_t *bytes) {
+    return rendezvous_word(bytes) | (uint64_t)rendezvous_word(bytes + RENDEZVOUS_WORD_BYTES) << 32;
+}
+
+/* The day sheet's totals, of RENDEZVOUS_TABLE_BYTES: how many offers were accepted, which is the next ticket, how many rendezvous were
+   committed, and how many offers were withdrawn. The sheet's fourth, how many processes have an open offer, stands in no byte: after
+   any calls from a fresh table, offers = 2 * meetings + withdrawn + open. */
+static inline uint32_t rendezvous_offers(const uint8_t *table) { return rendezvous_word(table + RENDEZVOUS_HEAD_NEXT); }
+
+static inline uint64_t rendezvous_meetings(const uint8_t *table) { return rendezvous_long(table + RENDEZVOUS_HEAD_MEETINGS); }
+
+static inline uint64_t rendezvous_withdrawn(const uint8_t *table) { return rendezvous_long(table + RENDEZVOUS_HEAD_WITHDRAWN); }
 
 /* A guard that receives, to RENDEZVOUS_GUARD_BYTES. Its kind and rank are 0. */
 static inline void rendezvous_receives(uint8_t *guard, bool enabled, uint8_t partner) {

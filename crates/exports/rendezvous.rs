@@ -2,8 +2,8 @@
 //! script program, on lent bytes. A program takes this file as `mod rendezvous;` and links
 //! libexports.a; nothing here needs more than `core`. Each function passes its arguments on to the
 //! library's, which is proved for all of them; what it gives is defined in crates/wire/specs and
-//! crates/exports/specs. `word`, `receives`, `sends`, `of_kind` and `of_rank`, which only lay
-//! bytes out, are Rust.
+//! crates/exports/specs. `word`, `long`, `offers`, `meetings`, `withdrawn`, `receives`, `sends`,
+//! `of_kind` and `of_rank`, which only read bytes and lay them out, are Rust.
 //!
 //! docs/BYTES.md has the bytes of a table, a guard, an answer and a session.
 //!
@@ -29,6 +29,8 @@ pub const PROCESSES: usize = 32;
 /// The slots of a list of guards.
 pub const GUARDS: usize = 8;
 pub const WORD_BYTES: usize = 4;
+/// A number of 64 bits.
+pub const LONG_BYTES: usize = 2 * WORD_BYTES;
 
 pub const MESSAGE_VARIANT: usize = 0;
 pub const MESSAGE_FIRST: usize = 1;
@@ -62,7 +64,9 @@ pub const RECORD_BYTES: usize = RECORD_POSTED + LIST_BYTES;
 pub const HEAD_COUNT: usize = 0;
 pub const HEAD_NAP: usize = 1;
 pub const HEAD_NEXT: usize = 2;
-pub const HEAD_BYTES: usize = HEAD_NEXT + WORD_BYTES;
+pub const HEAD_MEETINGS: usize = HEAD_NEXT + WORD_BYTES;
+pub const HEAD_WITHDRAWN: usize = HEAD_MEETINGS + LONG_BYTES;
+pub const HEAD_BYTES: usize = HEAD_WITHDRAWN + LONG_BYTES;
 pub const TABLE_BYTES: usize = HEAD_BYTES + PROCESSES * RECORD_BYTES;
 
 // Variants of messages.
@@ -217,9 +221,31 @@ pub fn script_finish(state: &[u8], out: &mut [u8]) -> usize {
     unsafe { rendezvous_script_finish(state.as_ptr(), state.len(), out.as_mut_ptr(), out.len()) }
 }
 
-/// The word at the front of bytes of an answer or a message.
+/// The word at the front of bytes of a table, an answer or a message.
 pub fn word(bytes: &[u8]) -> u32 {
     u32::from_le_bytes([bytes[0], bytes[1], bytes[2], bytes[3]])
+}
+
+/// The number of 64 bits at the front of bytes of a table.
+pub fn long(bytes: &[u8]) -> u64 {
+    u64::from(word(bytes)) | u64::from(word(&bytes[WORD_BYTES..])) << 32
+}
+
+/// How many offers of a table were accepted, which is its next ticket: the first of the day sheet's
+/// totals. The sheet's fourth, how many processes have an open offer, stands in no byte: after any
+/// calls from a fresh table, offers = 2 * meetings + withdrawn + open.
+pub fn offers(table: &[u8]) -> u32 {
+    word(&table[HEAD_NEXT..])
+}
+
+/// How many rendezvous of a table were committed: the second of the day sheet's totals.
+pub fn meetings(table: &[u8]) -> u64 {
+    long(&table[HEAD_MEETINGS..])
+}
+
+/// How many offers of a table were withdrawn: the third of the day sheet's totals.
+pub fn withdrawn(table: &[u8]) -> u64 {
+    long(&table[HEAD_WITHDRAWN..])
 }
 
 /// A guard that receives. Its kind and rank are 0.

@@ -89,14 +89,17 @@ fn starter(plan: u8, p: u8) -> Process {
     }
 }
 
-// Tickets for an offer of each process are given out, so that the table has no more open offers than given tickets.
+// Half of all tickets are given out. So a table has tickets for its open offers and for each withdrawal of a run, although process 0
+// withdraws the same offer over and over; and a run's own offers find as many left.
+const NEXT_TICKET: u32 = 2147483648;
+
 pub fn start(plan: u8, n: u8, load: u8) -> ProcessTable {
     let other = waiter(load);
     let mut processes = [other; MOST_PROCESSES as usize];
     processes[0] = starter(plan, 0);
     processes[1] = starter(plan, 1);
     let mut head = fresh_head(n, 1);
-    let next = TransactionId(MOST_PROCESSES as u32);
+    let next = TransactionId(NEXT_TICKET);
     head.next = next;
     ProcessTable {
         head: head,

@@ -14,9 +14,9 @@ use mir.Syntax.{w32}
 use mir.Val.{toZ, ofZ}
 use mir.Facts.{toZ-ofZ, fits-ofZ}
 use Rattle.wire.specs.Types.{Message, Action, Guard, Signal, Place, Process, Head}
-use Rattle.wire.specs.Layout.{guardLength, signalAt, ticketAt, acceptingAt, guardsAt, altlistAt, recordLength, headLength}
-use Rattle.wire.specs.Reading.{wordOf, messageOf, actionOf, guardOf, placeOf, signalOf, guardsOf, processOf, headOf, tableOf}
-use Rattle.wire.specs.Writing.{flag, wordBytes, messageBytes, actionBytes, guardBytes, placeBytes, signalBytes, eachBytes, guardsBytes, processParts}
+use Rattle.wire.specs.Layout.{guardLength, signalAt, ticketAt, acceptingAt, guardsAt, altlistAt, recordLength, nextAt, meetingsAt, withdrawnAt, headLength}
+use Rattle.wire.specs.Reading.{wordOf, longOf, messageOf, actionOf, guardOf, placeOf, signalOf, guardsOf, processOf, headOf, tableOf}
+use Rattle.wire.specs.Writing.{flag, wordBytes, longBytes, messageBytes, actionBytes, guardBytes, placeBytes, signalBytes, eachBytes, guardsBytes, processParts}
 use Rattle.wire.specs.Writing.{processBytes, headBytes, bytesOf}
 use Rattle.wire.specs.Claims.{Single, MessageHeld, ActionHeld, SignalHeld, PlaceHeld, GuardsHeld, ProcessHeld, HeadHeld, ReadsBack}
 use Rattle.wire.proofs.Lengths.{word-length, guard-length, place-length, signal-length, guards-length, process-length, head-length, records-length}
@@ -43,6 +43,13 @@ word-back x h rest =
     (div-add-mod x 256)
     (subst (λ (z : ℕ). 256 * z + x / 256 % 256 ≡ x / 256) (div-div-eq-div-mul x 256 256) (div-add-mod (x / 256) 256))
     (subst (λ (w : ℕ). 256 * w + x / 65536 % 256 ≡ x / 65536) (div-div-eq-div-mul x 65536 256) (div-add-mod (x / 65536) 256)))
+
+long-back : (x : ℕ) → x < 2 ^ 64 → (rest : List ℕ) → longOf (longBytes x ++ rest) ≡ x
+unfolding longOf longBytes wordBytes
+long-back x h rest =
+    let low = x % 2 ^ 32 in
+    let high = x / 2 ^ 32 in
+    rw (word-back low (omega arith) (wordBytes high ++ rest), word-back high (omega arith) rest) (omega arith)
 
 -- the word of an f32
 float-back : (x : Float) → Single x → (rest : List ℕ) → ofBits binary32 (wordOf (wordBytes (toBits binary32 x) ++ rest)) ≡ x
@@ -118,8 +125,13 @@ process-back x h rest =
     )
 
 head-back : (h : Head) → HeadHeld h → (rest : List ℕ) → headOf (headBytes h ++ rest) ≡ h
-unfolding headOf headBytes
-head-back h fits rest = rw (word-back (h .next .0) fits)
+unfolding headOf headBytes wordBytes longBytes
+head-back h fits rest =
+    let bytes = headBytes h ++ rest in
+    let next : wordOf (drop nextAt bytes) ≡ h .next .0 = word-back (h .next .0) (fits .next) (longBytes (h .meetings) ++ longBytes (h .withdrawn) ++ rest) in
+    let meetings : longOf (drop meetingsAt bytes) ≡ h .meetings = long-back (h .meetings) (fits .meetings) (longBytes (h .withdrawn) ++ rest) in
+    let withdrawn : longOf (drop withdrawnAt bytes) ≡ h .withdrawn = long-back (h .withdrawn) (fits .withdrawn) rest in
+    rw (next, meetings, withdrawn)
 
 pub table-back : ReadsBack
 unfolding tableOf bytesOf

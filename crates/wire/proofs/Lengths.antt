@@ -8,7 +8,7 @@ use Rattle.rendezvous.specs.Table.{mostProcesses}
 use Rattle.wire.specs.Types.{Message, Action, Guard, Signal, Place, Process, Head, ProcessTable}
 use Rattle.wire.specs.Layout.{wordLength, messageLength, actionLength, guardLength, guardsLength, placeLength, signalLength, recordLength, recordsLength}
 use Rattle.wire.specs.Layout.{headLength, tableLength}
-use Rattle.wire.specs.Writing.{wordBytes, messageBytes, actionBytes, guardBytes, placeBytes, signalBytes, eachBytes, guardsBytes, processParts}
+use Rattle.wire.specs.Writing.{wordBytes, longBytes, messageBytes, actionBytes, guardBytes, placeBytes, signalBytes, eachBytes, guardsBytes, processParts}
 use Rattle.wire.specs.Writing.{processBytes, headBytes, bytesOf}
 use Rattle.wire.specs.Claims.{ActionHeld, Each, GuardsHeld, ProcessHeld}
 use Rattle.wire.proofs.Lists.{each-length}
@@ -66,7 +66,7 @@ unfolding processBytes
 process-length x h = total-is (processParts x) ∙ parts-length x (guards-length (x .guards) (h .own)) (guards-length (x .altlist) (h .posted))
 
 pub head-length : (h : Head) → length (headBytes h) ≡ headLength
-unfolding headBytes wordBytes
+unfolding headBytes wordBytes longBytes
 head-length h = refl
 
 pub records-length : (ps : List Process) → length ps ≡ mostProcesses → Each ProcessHeld ps → length (eachBytes processBytes ps) ≡ recordsLength

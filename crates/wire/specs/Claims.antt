@@ -1,4 +1,4 @@
--- To be believed. That a table is read back from its bytes: `reads_back` carries it of any table that is held, and `encode` of every table of the code. `guard_as_bytes` and `nap_as_bytes` carry the bytes of a guard, and of a head and a sleeper.
+-- To be believed. That a table is read back from its bytes: `reads_back` carries it of any table that is held, and `encode` of every table of the code. `guard_as_bytes`, `head_as_bytes` and `nap_as_bytes` carry the bytes of a guard, of a head and of a sleeper.
 use Rattle.alternative.specs.Guards.{mostGuards}
 use Rattle.process.specs.Process.{ifMet}
 use Rattle.rendezvous.specs.Table.{mostProcesses}
@@ -9,9 +9,12 @@ use Rattle.wire.specs.Reading.{guardOf, placeOf, headOf, tableOf}
 use Rattle.wire.specs.Writing.{guardBytes, placeBytes, headBytes, bytesOf}
 use lib.Ieee as ieee
 
--- a ticket of 32 bits, a signed number of 32 bits, an f32, as the code's types have them
+-- a ticket of 32 bits, a total of 64, a signed number of 32 bits, an f32, as the code's types have them
 abbrev Ticket : ℕ → Type 0
 Ticket x = x < 2 ^ 32
+
+abbrev Total : ℕ → Type 0
+Total x = x < 2 ^ 64
 
 abbrev pub Single : Float → Type 0
 Single x = T (ieee.fits binary32 x)
@@ -48,8 +51,10 @@ pub record ProcessHeld (x : Process) : Type 0 where
   pub own : GuardsHeld (x .guards)
   pub posted : GuardsHeld (x .altlist)
 
-abbrev pub HeadHeld : Head → Type 0
-HeadHeld h = Ticket (h .next .0)
+pub record HeadHeld (h : Head) : Type 0 where
+  pub next : Ticket (h .next .0)
+  pub meetings : Total (h .meetings)
+  pub withdrawn : Total (h .withdrawn)
 
 -- a table that the code's types can hold
 pub record Held (t : ProcessTable) : Type 0 where
@@ -75,15 +80,19 @@ its = 1 ∷ 7 ∷ 9 ∷ 5 ∷ 1 ∷ 0 ∷ 0 ∷ 0 ∷ 0 ∷ 0 ∷ 0 ∷ 0 ∷ 0 
 abbrev pub GuardAsBytes : Type 0
 GuardAsBytes = (guardBytes aGuard ≡ its) × (guardOf its ≡ aGuard)
 
--- The bytes of one head: 7 processes, naps of 9 steps, the next ticket 3; and of one place: asleep, after 5 steps there. They are read as these.
+-- The bytes of one head, in their order: 7 processes, naps of 9 steps, the next ticket 3, and totals no two bytes of which are the same. They are read as that head.
 abbrev aHead : Head
-aHead = record { n = 7; nap = 9; next = record { 0 = 3 } }
+aHead = record { n = 7; nap = 9; next = record { 0 = 3 }; meetings = 0x0807_0605_0403_0201; withdrawn = 0x100f_0e0d_0c0b_0a09 }
 
 abbrev headsOwn : List ℕ
-headsOwn = 7 ∷ 9 ∷ 3 ∷ 0 ∷ 0 ∷ 0 ∷ []
+headsOwn = 7 ∷ 9 ∷ 3 ∷ 0 ∷ 0 ∷ 0 ∷ 1 ∷ 2 ∷ 3 ∷ 4 ∷ 5 ∷ 6 ∷ 7 ∷ 8 ∷ 9 ∷ 10 ∷ 11 ∷ 12 ∷ 13 ∷ 14 ∷ 15 ∷ 16 ∷ []
 
+abbrev pub HeadAsBytes : Type 0
+HeadAsBytes = (headBytes aHead ≡ headsOwn) × (headOf headsOwn ≡ aHead)
+
+-- The bytes of one place: asleep, after 5 steps there. They are read as that place.
 abbrev aSleepersOwn : List ℕ
 aSleepersOwn = 8 ∷ 5 ∷ 0 ∷ 0 ∷ 0 ∷ 0 ∷ 0 ∷ 0 ∷ 0 ∷ 0 ∷ 0 ∷ 0 ∷ []
 
 abbrev pub NapAsBytes : Type 0
-NapAsBytes = (headBytes aHead ≡ headsOwn) × (headOf headsOwn ≡ aHead) × (placeBytes (Place.Asleep 5) ≡ aSleepersOwn) × (placeOf aSleepersOwn ≡ Place.Asleep 5)
+NapAsBytes = (placeBytes (Place.Asleep 5) ≡ aSleepersOwn) × (placeOf aSleepersOwn ≡ Place.Asleep 5)

@@ -3,9 +3,12 @@ use Rattle.alternative.specs.Guards.{mostGuards}
 use Rattle.rendezvous.specs.Table.{mostProcesses}
 use Rattle.wire.specs.Types.{ℕ, _+_, _*_, _≡_}
 
--- a number of 32 bits
+-- a word, which is a number of 32 bits, and a number of 64 bits, which is two words
 abbrev pub wordLength : ℕ
 wordLength = 4
+
+abbrev pub longLength : ℕ
+longLength = 2 * wordLength
 
 -- a message: the variant, two words
 abbrev pub firstAt : ℕ
@@ -74,12 +77,18 @@ altlistAt = guardsAt + guardsLength
 abbrev pub recordLength : ℕ
 recordLength = altlistAt + guardsLength
 
--- a head: the number of processes, the length of a nap, the next ticket
+-- a head: the number of processes, the length of a nap, the next ticket, the meetings, the withdrawn offers
 abbrev pub nextAt : ℕ
 nextAt = 2
 
+abbrev pub meetingsAt : ℕ
+meetingsAt = nextAt + wordLength
+
+abbrev pub withdrawnAt : ℕ
+withdrawnAt = meetingsAt + longLength
+
 abbrev pub headLength : ℕ
-headLength = nextAt + wordLength
+headLength = withdrawnAt + longLength
 
 -- a table: its head, a record for each process
 abbrev pub recordsLength : ℕ
@@ -88,8 +97,9 @@ recordsLength = recordLength * mostProcesses
 abbrev pub tableLength : ℕ
 tableLength = headLength + recordsLength
 
--- how long a message, a guard, a record, a head and a table are, and where in a record the signal, the ticket, accepting, the own and the posted guards stand: the numbers of docs/BYTES.md
+-- how long a message, a guard, a record, a head and a table are, where in a record the signal, the ticket, accepting, the own and the posted guards stand, and where in a head the totals: the numbers of docs/BYTES.md
 abbrev pub Lengths : Type 0
 Lengths =
-    (messageLength ≡ 9) × (guardLength ≡ 14) × (recordLength ≡ 254) × (headLength ≡ 6) × (tableLength ≡ 8134) ×
-    (signalAt ≡ 12) × (ticketAt ≡ 23) × (acceptingAt ≡ 27) × (guardsAt ≡ 30) × (altlistAt ≡ 142)
+    (messageLength ≡ 9) × (guardLength ≡ 14) × (recordLength ≡ 254) × (headLength ≡ 22) × (tableLength ≡ 8150) ×
+    (signalAt ≡ 12) × (ticketAt ≡ 23) × (acceptingAt ≡ 27) × (guardsAt ≡ 30) × (altlistAt ≡ 142) ×
+    (meetingsAt ≡ 6) × (withdrawnAt ≡ 14)

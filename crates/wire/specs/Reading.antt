@@ -2,9 +2,9 @@
 -- last variant's is read as the last variant, and any byte but 0 as true.
 use Rattle.alternative.specs.Guards.{mostGuards}
 use Rattle.rendezvous.specs.Table.{mostProcesses}
-use Rattle.wire.specs.Layout.{firstAt, secondAt, sentAt, actionAt, outcomeAt, signalledAt, guardLength, nextAt, headLength, recordLength, signalAt}
-use Rattle.wire.specs.Layout.{ticketAt, acceptingAt, countAt, altcountAt, guardsAt, altlistAt}
-use Rattle.wire.specs.Types.{ℕ, zero, suc, _+_, _*_, _/_, not, List, [], _∷_, length, getD, drop, eqb, binary32, ofBits, w32, toZ, Message, Action}
+use Rattle.wire.specs.Layout.{firstAt, secondAt, sentAt, actionAt, outcomeAt, signalledAt, guardLength, wordLength, nextAt, meetingsAt, withdrawnAt, headLength, recordLength}
+use Rattle.wire.specs.Layout.{signalAt, ticketAt, acceptingAt, countAt, altcountAt, guardsAt, altlistAt}
+use Rattle.wire.specs.Types.{ℕ, zero, suc, _+_, _*_, _/_, _^_, not, List, [], _∷_, length, getD, drop, eqb, binary32, ofBits, w32, toZ, Message, Action}
 use Rattle.wire.specs.Types.{Guard, Signal, Place, Process, Head, ProcessTable}
 
 abbrev pub byte : List ℕ → ℕ → ℕ
@@ -13,6 +13,10 @@ byte bytes k = getD bytes k 0
 -- the lowest byte first
 unfoldable pub wordOf : List ℕ → ℕ
 wordOf bytes = byte bytes 0 + 256 * byte bytes 1 + 65536 * byte bytes 2 + 16777216 * byte bytes 3
+
+-- a number of 64 bits, the low word first
+unfoldable pub longOf : List ℕ → ℕ
+longOf bytes = wordOf bytes + 2 ^ 32 * wordOf (drop wordLength bytes)
 
 -- A whole number stands in the first word in two's complement, a reading by its bits; a limit has low in the first and high in the second.
 unfoldable pub messageOf : List ℕ → Message
@@ -60,7 +64,13 @@ processOf bytes = record {
 }
 
 unfoldable pub headOf : List ℕ → Head
-headOf bytes = record { n = byte bytes 0; nap = byte bytes 1; next = record { 0 = wordOf (drop nextAt bytes) } }
+headOf bytes = record {
+  n = byte bytes 0;
+  nap = byte bytes 1;
+  next = record { 0 = wordOf (drop nextAt bytes) };
+  meetings = longOf (drop meetingsAt bytes);
+  withdrawn = longOf (drop withdrawnAt bytes);
+}
 
 unfoldable pub tableOf : List ℕ → ProcessTable
 tableOf bytes = record { head = headOf bytes; processes = eachOf processOf recordLength mostProcesses (drop headLength bytes) }

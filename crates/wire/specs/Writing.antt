@@ -1,5 +1,5 @@
 -- To be believed. The bytes of a table, written, in the order in which Reading reads them.
-use Rattle.wire.specs.Types.{ℕ, _/_, _%_, Bool, cond, List, [], _∷_, _++_, flatten, length, drop, leb, binary32, toBits, w32, ofZ, Message, Action}
+use Rattle.wire.specs.Types.{ℕ, _/_, _%_, _^_, Bool, cond, List, [], _∷_, _++_, flatten, length, drop, leb, binary32, toBits, w32, ofZ, Message, Action}
 use Rattle.wire.specs.Types.{Guard, Signal, Place, Process, Head, ProcessTable}
 
 abbrev pub flag : Bool → ℕ
@@ -8,6 +8,10 @@ flag b = cond b 1 0
 -- the lowest byte first
 unfoldable pub wordBytes : ℕ → List ℕ
 wordBytes x = x % 256 ∷ x / 256 % 256 ∷ x / 65536 % 256 ∷ x / 16777216 % 256 ∷ []
+
+-- a number of 64 bits, the low word first
+unfoldable pub longBytes : ℕ → List ℕ
+longBytes x = wordBytes (x % 2 ^ 32) ++ wordBytes (x / 2 ^ 32)
 
 -- the variant and two words, 0 where a message has none
 unfoldable pub messageBytes : Message → List ℕ
@@ -64,7 +68,7 @@ unfoldable pub processBytes : Process → List ℕ
 processBytes x = flatten (processParts x)
 
 unfoldable pub headBytes : Head → List ℕ
-headBytes h = h .n ∷ h .nap ∷ wordBytes (h .next .0)
+headBytes h = h .n ∷ h .nap ∷ wordBytes (h .next .0) ++ longBytes (h .meetings) ++ longBytes (h .withdrawn)
 
 unfoldable pub bytesOf : ProcessTable → List ℕ
 bytesOf t = headBytes (t .head) ++ eachBytes processBytes (t .processes)

@@ -1,10 +1,11 @@
-// Bytes and words of a slice.
+// Bytes, words and numbers of 64 bits of a slice.
+use crate::layout::LONG_BYTES;
 use crate::layout::WORD_BYTES;
 ghost use mathlib.Core.Path.{_≡_};
 ghost use lib.ListN.{getD, drop};
 ghost use lib.Seq.{sets};
-ghost use Rattle.wire.specs.Reading.{wordOf};
-ghost use Rattle.wire.specs.Writing.{wordBytes};
+ghost use Rattle.wire.specs.Reading.{wordOf, longOf};
+ghost use Rattle.wire.specs.Writing.{wordBytes, longBytes};
 
 // Byte k, and 0 past the end.
 pub fn byte_at(bytes: &[u8], k: usize) -> u8
@@ -50,6 +51,23 @@ pub fn word_bytes(x: u32) -> [u8; WORD_BYTES]
         (x / 65536 % 256) as u8,
         (x / 16777216 % 256) as u8,
     ]
+}
+
+// The number of 64 bits at the front.
+pub fn long_of(bytes: &[u8]) -> u64
+    ensures { λ r. ⌜ r ≡ longOf (now (bytes .entry)) ⌝ }
+{
+    let low = word_of(bytes) as u64;
+    let high = word_of(from(bytes, WORD_BYTES)) as u64;
+    low + 4294967296 * high
+}
+
+pub fn long_bytes(x: u64) -> [u8; LONG_BYTES]
+    ensures { λ r. ⌜ r ≡ longBytes x ⌝ }
+{
+    let a = word_bytes((x % 4294967296) as u32);
+    let b = word_bytes((x / 4294967296) as u32);
+    [a[0], a[1], a[2], a[3], b[0], b[1], b[2], b[3]]
 }
 
 // Writes bytes from byte `at` on. What goes past the end is dropped.

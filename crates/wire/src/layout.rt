@@ -2,8 +2,10 @@
 // here is one byte, and stands behind the one before it. The definitions have the same numbers (specs/Layout.antt).
 use rendezvous::MOST_PROCESSES;
 
-// A number of 32 bits, the lowest byte first.
+// A word, which is a number of 32 bits, and a number of 64 bits, which is two words: the lowest byte first.
 pub const WORD_BYTES: usize = 4;
+
+pub const LONG_BYTES: usize = 2 * WORD_BYTES;
 
 // A message: its variant, two words.
 pub const FIRST_AT: usize = 1;
@@ -51,10 +53,14 @@ pub const ALTLIST_AT: usize = GUARDS_AT + GUARDS_BYTES;
 
 pub const RECORD_BYTES: usize = ALTLIST_AT + GUARDS_BYTES;
 
-// A head: the number of processes, the length of a nap, the next ticket.
+// A head: the number of processes, the length of a nap, the next ticket, the meetings, the withdrawn offers.
 pub const NEXT_AT: usize = 2;
 
-pub const HEAD_BYTES: usize = NEXT_AT + WORD_BYTES;
+pub const MEETINGS_AT: usize = NEXT_AT + WORD_BYTES;
+
+pub const WITHDRAWN_AT: usize = MEETINGS_AT + LONG_BYTES;
+
+pub const HEAD_BYTES: usize = WITHDRAWN_AT + LONG_BYTES;
 
 // A table: its head, a record for each process.
 pub const RECORDS: usize = MOST_PROCESSES as usize;

@@ -7,7 +7,7 @@ ghost use lib.ListN.{length};
 ghost use Rattle.wire.specs.Reading.{tableOf};
 ghost use Rattle.wire.specs.Layout.{Lengths, tableLength};
 ghost use Rattle.wire.specs.Writing.{bytesOf, onto};
-ghost use Rattle.wire.specs.Claims.{Faithful, ReadsBack, GuardAsBytes, NapAsBytes};
+ghost use Rattle.wire.specs.Claims.{Faithful, ReadsBack, GuardAsBytes, HeadAsBytes, NapAsBytes};
 
 mod bytes;
 mod layout;
@@ -69,8 +69,8 @@ pub fn encode(table: ProcessTable, out: &mut [u8]) -> bool
     true
 }
 
-// Carries how many bytes a message, a guard, a record, a head and a table have, and where in a record the signal, the ticket,
-// accepting, the own and the posted guards stand.
+// Carries how many bytes a message, a guard, a record, a head and a table have, where in a record the signal, the ticket, accepting,
+// the own and the posted guards stand, and where in a head the totals.
 pub fn byte_lengths()
     ensures { λ _. ⌜ Lengths ⌝ }
 {}
@@ -85,7 +85,12 @@ pub fn guard_as_bytes()
     ensures { λ _. ⌜ GuardAsBytes ⌝ }
 {}
 
-// Carries the bytes of one head and of one sleeper, in their order.
+// Carries the bytes of one head, in their order.
+pub fn head_as_bytes()
+    ensures { λ _. ⌜ HeadAsBytes ⌝ }
+{}
+
+// Carries the bytes of one sleeper's place, in their order.
 pub fn nap_as_bytes()
     ensures { λ _. ⌜ NapAsBytes ⌝ }
 {}

@@ -1,6 +1,7 @@
 // What the bytes at the front of a slice are read as.
 use crate::bytes::byte_at;
 use crate::bytes::from;
+use crate::bytes::long_of;
 use crate::bytes::word_of;
 use crate::layout;
 use crate::wholes::whole_of;
@@ -142,5 +143,7 @@ pub fn head_of(bytes: &[u8]) -> Head
         n: byte_at(bytes, 0),
         nap: byte_at(bytes, 1),
         next: next,
+        meetings: long_of(from(bytes, layout::MEETINGS_AT)),
+        withdrawn: long_of(from(bytes, layout::WITHDRAWN_AT)),
     }
 }

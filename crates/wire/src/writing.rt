@@ -1,4 +1,5 @@
 // The bytes of what a table holds.
+use crate::bytes::long_bytes;
 use crate::bytes::put_bytes;
 use crate::bytes::word_bytes;
 use crate::layout;
@@ -161,7 +162,15 @@ pub fn process_bytes(x: Process) -> [u8; layout::RECORD_BYTES]
 pub fn head_bytes(h: Head) -> [u8; layout::HEAD_BYTES]
     ensures { λ r. ⌜ r ≡ headBytes h ⌝ }
 {
+    let mut out = [0u8; layout::HEAD_BYTES];
+    let two = [h.n, h.nap];
+    put_bytes(&mut out, 0, &two);
     let next = h.next;
     let word = word_bytes(next.0);
-    [h.n, h.nap, word[0], word[1], word[2], word[3]]
+    put_bytes(&mut out, layout::NEXT_AT, &word);
+    let meetings = long_bytes(h.meetings);
+    put_bytes(&mut out, layout::MEETINGS_AT, &meetings);
+    let withdrawn = long_bytes(h.withdrawn);
+    put_bytes(&mut out, layout::WITHDRAWN_AT, &withdrawn);
+    out
 }

@@ -1,7 +1,6 @@
 //! What is called, in turn. The three loops follow the same plans, and so
 //! their sums of answers are the same.
 
-use model::by_value::MOST_PARTIES;
 use model::Withdrawal;
 
 #[derive(Clone, Copy, PartialEq, Eq)]
@@ -29,8 +28,9 @@ pub enum Call {
 /// How many calls make a meeting.
 pub const MEETING: u8 = 14;
 
-/// The next ticket of every desk that a plan starts from: no less than the offers that are open in it, as crates/meter has it.
-pub const NEXT_TICKET: u32 = MOST_PARTIES as u32;
+/// The next ticket of every desk that a plan starts from, as crates/meter has it: no less than the
+/// offers that are open in it and those that a run withdraws, with enough left for its offers.
+pub const NEXT_TICKET: u32 = 1 << 31;
 
 /// The nap length of every desk: every second step of `Plan::Step` ends a nap.
 pub const NAP: u8 = 1;
