@@ -1,11 +1,13 @@
 /* ./run --trace: tells, for each rendezvous of the script on standard input, which way its message went, station by station; for each
    offer that is withdrawn, as soon as it is, from which place; and at the end which offers have not met, which outcomes are not
-   collected, and which lines were refused.
+   collected, the day sheet of the last table, and which lines were refused.
    The script goes to the proved library a line at a time. What a station shows is read out of the table's own bytes, as they stood
    just before and just after that line, and at a collection out of what the line printed; rendezvous.h says what stands where.
    Each station is held against the guards as the script wrote them, and a commit also against the posted guard that rule 7 keeps; between
-   stations, no line may change what a record holds of them. */
+   stations, no line may change what a record holds of them. The day sheet is held against the offers, commits and withdrawals that were
+   seen. */
 #include "rendezvous.h"
+#include "sheet.h"
 #include <stdarg.h>
 #include <stdio.h>
 #include <stdlib.h>
@@ -54,6 +56,7 @@ typedef struct {
     unsigned guard;               /* its guard in that */
     Text due;                     /* and what it will collect */
     bool late;                    /* it was too late to withdraw */
+    bool open;                    /* its offer has neither met nor been withdrawn */
 } Process;
 
 static uint8_t before[RENDEZVOUS_SESSION_BYTES], after[RENDEZVOUS_SESSION_BYTES];
@@ -64,6 +67,7 @@ static Story stories[STORIES];
 static size_t held;
 static unsigned long rendezvous;
 static unsigned long refused, first_refused, first_number;
+static Sheet counted; /* what was seen of the last table; its open offers are counted at the end */
 static bool differs;
 
 static _Noreturn void fail(const char *what) {
@@ -119,10 +123,9 @@ static unsigned long ticket_in(const uint8_t *process) { return rendezvous_word(
 static int wake_count_in(const uint8_t *process) { return !process[RENDEZVOUS_RECORD_ACCEPTING]; }
 
 static char place(const uint8_t *session, unsigned p) {
-    static const char letters[] = "IEATCPOHSWM";
     uint8_t at = record(session, p)[RENDEZVOUS_RECORD_PLACE];
-    if (at >= strlen(letters)) fail("a process is at no place");
-    return letters[at];
+    if (at >= strlen(places)) fail("a process is at no place");
+    return places[at];
 }
 
 /* Takes a mark with 0 out of a guard as written, `:0` or `^0`. The number after a mark has no leading zeros: one that begins with 0 is 0. */
@@ -269,6 +272,8 @@ static void see(unsigned p, unsigned what) {
 static void offers(unsigned p) {
     memset(&processes[p], 0, sizeof processes[p]);
     strcpy(processes[p].offer, piece);
+    processes[p].open = true;
+    counted.offers++;
     see(p, OFFERS);
 }
 static void posts(unsigned p) { see(p, POSTS); }
@@ -280,6 +285,7 @@ static void join(Story *story, unsigned p, unsigned i) {
     processes[p].story = story->number;
     processes[p].guard = i;
     processes[p].due = due(story, p);
+    processes[p].open = false;
     for (unsigned what = OFFERS; what < ALONE; what++) add_seen(story, p, what);
 }
 
@@ -346,6 +352,7 @@ static void commits(unsigned p) {
     Text mine = guard_in(own, RENDEZVOUS_RECORD_OWN, i), kept = guard_in(partner, RENDEZVOUS_RECORD_POSTED, j);
     Text wanted = guard_written(processes[p].offer, i), partners = guard_written(processes[q].offer, j);
     Story *story = begin(sends ? p : q, sends ? q : p, message_written(sends ? wanted : partners));
+    counted.meetings++;
     join(story, q, j);
     join(story, p, i);
     Station *station = add(story, line, "process %u commits at its guard %u (%s) to posted guard %u of process %u (%s), whose wake count becomes %d", p, i,
@@ -422,6 +429,8 @@ static void tell_offer(const uint8_t *session, unsigned p) {
 /* Process p takes its offer back, which no rule lets it do after a commit. */
 static void withdraws(unsigned p) {
     if (processes[p].story > 0) fail("an offer is withdrawn after its commit");
+    processes[p].open = false;
+    counted.withdrawn++;
     printf("withdrawn at line %lu: ", line);
     tell_offer(before, p);
 }
@@ -499,6 +508,7 @@ static void begin_table(void) {
     tell_all();
     tell_all_left(before, heading);
     memset(processes, 0, sizeof processes);
+    counted = (Sheet){0};
 }
 
 static void refuse(void) {
@@ -548,10 +558,17 @@ static void finish(void) {
     refuse();
 }
 
+/* The day sheet of the last table. */
+static void tell_day(void) {
+    for (unsigned p = 0; p < RENDEZVOUS_PROCESSES; p++) counted.open += processes[p].open;
+    if (!tell_sheet(sheet_in(after + RENDEZVOUS_SESSION_TABLE), counted)) differs = true;
+}
+
 static void tell_end(void) {
     tell_all();
     if (rendezvous == 0) puts("no rendezvous");
     if (!tell_all_left(after, (Text){"left at the end:"})) puts("left at the end: nothing");
+    tell_day();
     if (refused == 0)
         puts("lines refused: none");
     else

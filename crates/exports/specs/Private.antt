@@ -9,10 +9,11 @@ onOther partner action place =
     let guards : List Guard = record { enabled = true; partner = partner; kind = 0; rank = 0; action = action } ∷ replicate (mostGuards - 1) blank in
     record { place = place; signal = Signal.Absent; transaction = record { 0 = 0 }; accepting = true; count = 1; altcount = 1; guards = guards; altlist = guards }
 
+-- three tickets for two offers: at P process 0 accepts already, so that after a commit its offer, then at O, is still among the open ones
 abbrev pub facing : Place → Action → Action → ProcessTable
 facing place first second =
     let processes = onOther 1 first place ∷ onOther 0 second (Place.Trying 0) ∷ replicate (mostProcesses - 2) freshProcess in
-    record { head = withNext (freshHead 2 1) 2; processes = processes }
+    record { head = withNext (freshHead 2 1) 3; processes = processes }
 
 abbrev pub collectedOf : Answer → Message
 collectedOf (Answer.Collected i q m) = m

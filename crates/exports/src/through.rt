@@ -46,7 +46,8 @@ fn on_other(partner: u8, action: Action, place: Place) -> Process
     }
 }
 
-// Process 0 at a place, and process 1, which tries its guard on 0. No run of calls makes this table: no message of one is a NaN.
+// Process 0 at a place, and process 1, which tries its guard on 0. No run of calls makes this table: no message of one is a NaN. It has
+// three tickets for two offers: where 0 is to post its list it accepts already, and its offer counts as open after the commit too.
 fn facing_table(place: Place, first: Action, second: Action) -> ProcessTable
     ensures { λ r. ⌜ r ≡ facing place first second ⌝ }
 {
@@ -54,7 +55,7 @@ fn facing_table(place: Place, first: Action, second: Action) -> ProcessTable
     let mut processes = [fresh; MOST_PROCESSES as usize];
     processes[0] = on_other(1, first, place);
     processes[1] = on_other(0, second, Place::Trying(0));
-    let next = TransactionId(2);
+    let next = TransactionId(3);
     let mut head = fresh_head(2, 1);
     head.next = next;
     ProcessTable {

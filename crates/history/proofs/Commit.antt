@@ -23,7 +23,7 @@ use Rattle.history.specs.Book.{Transaction, Rendezvous, Moment, Joined, 
 use Rattle.history.specs.Tables.{offerBy}
 use Rattle.history.specs.Demand3.{Joins}
 use Rattle.history.specs.NothingLost.{isOwed}
-use Rattle.history.proofs.View.{View, upd}
+use Rattle.history.proofs.View.{View}
 use Rattle.history.proofs.Invariant.{Shows, Bound, Good}
 use Rattle.history.proofs.Matches.{Match, match, Searched, searched, on-there, NamesOther}
 use Rattle.history.proofs.Places.{shows-elim}

@@ -1,7 +1,7 @@
 -- What each rule does to the open offers, and so to the totals: a commit closes two offers, and no other rule closes or opens one.
 use Prim.Native.Nat.{ℕ, zero, suc, _+_, _*_, _≤_, _<_}
-use mathlib.Core.Path.{_≡_, refl, sym, ap, _∙_}
-use mathlib.Core.Bool.{Bool, true, false, cond, true≢false, false≢true}
+use mathlib.Core.Path.{_≡_, refl, ap, _∙_}
+use mathlib.Core.Bool.{Bool, true, false, cond, false≢true}
 use native.Mathlib.Omega.{arith}
 use lib.Dec.{ltb}
 use Rattle.alternative.specs.declared.Found.{Found}
@@ -16,7 +16,7 @@ use Rattle.rendezvous.specs.declared.Head.{Head}
 use Rattle.rendezvous.specs.Table.{countBelow, withMeeting}
 use Rattle.rendezvous.specs.Calls.{headAfter}
 use Rattle.history.proofs.View.{split, View, upd, effected, upd-same, upd-other}
-use Rattle.history.proofs.Invariant.{Shows, Inv, Totalled, openIn}
+use Rattle.history.proofs.Invariant.{Inv, Totalled, openIn}
 use Rattle.history.proofs.Places.{shows-elim, told-woken}
 use Rattle.history.proofs.Facts.{fine, at-names, accepts}
 

@@ -1,7 +1,6 @@
 -- To be believed. CR 6 of document 02, by cases: where its part of refusal 7 begins, what counts as open, which calls count, and what a commit on a damaged table may leave.
 use mathlib.Core.List.{map}
 use Rattle.process.specs.declared.Signal.{Signal}
-use Rattle.process.specs.Process.{freshProcess}
 use Rattle.rendezvous.specs.Table.{withHead, freshTable, openOffers}
 use Rattle.rendezvous.specs.Numbers.{refusal}
 use Rattle.rendezvous.specs.Run.{Call, Offer, Step, Collect, Withdraw, tableAfterAll}

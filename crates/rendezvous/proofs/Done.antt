@@ -23,7 +23,7 @@ use Rattle.rendezvous.specs.Refusals.{withdrawVerdict}
 use Rattle.rendezvous.specs.Calls.{ifAccepted, entering, offered, offerList, effectOn, applied, stepped, step, collected, collect, commitCameFirst}
 use Rattle.rendezvous.specs.Calls.{withdrawnOrLate, withdraw}
 use Rattle.rendezvous.specs.Acts.{alone, unlessRefused, offerAct, movedAct, stepAct, collectedAct, collectAct, withdrawnOrLateAct, withdrawAct, done}
-use Rattle.rendezvous.specs.Acts.{FormOf, ActsAreCalls, AllActsAreCalls}
+use Rattle.rendezvous.specs.Acts.{FormOf, AllActsAreCalls}
 use Rattle.rendezvous.proofs.Steps.{inside}
 
 -- an act that changes nothing: what was read is written again

@@ -9,7 +9,7 @@ use native.Mathlib.Omega.{arith}
 use lib.Dec.{leb}
 use borrow.Author.Tests.{leb-true, le-leb}
 use Rattle.rendezvous.specs.declared.{Form.Form, Head.Head, ProcessTable.ProcessTable}
-use Rattle.rendezvous.specs.Table.{mostProcesses, process, countBelow, openOffers, accountedFor}
+use Rattle.rendezvous.specs.Table.{mostProcesses, process, countBelow, accountedFor}
 use Rattle.process.specs.declared.Process.{Process}
 use Rattle.process.specs.Rules.{partnerOf}
 use Rattle.process.specs.Process.{isOpen}
