@@ -165,7 +165,7 @@ mod tests {
         let other_sums = OTHER_SUMS.iter().map(|library| library as &dyn Library);
         let miscounts = MISCOUNTS.iter().map(|library| library as &dyn Library);
         for library in other_sums.chain(miscounts) {
-            let text = run(library, ONCE).err().expect("a difference").text;
+            let text = run(library, ONCE).expect_err("a difference").text;
             assert!(text.contains("\ncall: "), "{text}");
         }
     }
