@@ -36,6 +36,7 @@ pub fn run(library: &dyn Library, budget: Budget) -> Verdict {
         done.map_err(|text| Finding::new(seed, text))?;
         rounds += 1;
     }
+    print!("{}", part.seen.listed(&SHOWN));
     match part.seen.missed(&SHOWN) {
         Some(text) => Err(Finding::new(budget.seed, text)),
         None => Ok(part.told()),
@@ -54,11 +55,7 @@ struct Totals<'a> {
 impl Totals<'_> {
     fn told(&self) -> String {
         let (desks, calls, refused) = (self.desks, self.calls, self.refused);
-        let seen = SHOWN.map(|name| format!("{} of {name}", self.seen.count(name)));
-        format!(
-            "totals: {desks} tables with 0 to n open offers, {calls} calls, {refused} refused by 7; {}",
-            seen.join(", ")
-        )
+        format!("totals: {desks} tables with 0 to n open offers, {calls} calls, {refused} of them refused by 7, every edge of the sum seen")
     }
 
     /// Every edge for desks of one shape, each with a layout of its own.
