@@ -7,29 +7,34 @@ use std::path::PathBuf;
 use std::time::Duration;
 
 pub const USAGE: &str = "\
-compare PART [--seconds N] [--seed S]   one part: scripts, reached, damaged, nan, interleavings, stress or fuzz
+compare PART [--seconds N] [--seed S]   one part: scripts, sheet, reached, damaged, totals, nan, interleavings, stress or fuzz
 compare fuzz SECONDS                    the same as fuzz --seconds SECONDS
 compare all [--seconds N] [--seed S]    every part, N seconds in all
 compare long MINUTES                    every part again and again with fresh seeds
 compare once < SCRIPT                   one script; a difference ends the process as a crash
   --program PATH   another script program than target/bin/script_main
+  --sheet PATH     another program of the day sheet than target/bin/sheet_main
   --model          the model in the place of the proved library, to try the comparison itself";
 
 #[derive(Clone, Copy, Debug, PartialEq, Eq)]
 pub enum Part {
     Scripts,
+    Sheet,
     Reached,
     Damaged,
+    Totals,
     Nan,
     Interleavings,
     Stress,
     Fuzz,
 }
 
-pub const PARTS: [Part; 7] = [
+pub const PARTS: [Part; 9] = [
     Part::Scripts,
+    Part::Sheet,
     Part::Reached,
     Part::Damaged,
+    Part::Totals,
     Part::Nan,
     Part::Interleavings,
     Part::Stress,
@@ -40,8 +45,10 @@ impl Part {
     pub fn name(self) -> &'static str {
         match self {
             Part::Scripts => "scripts",
+            Part::Sheet => "sheet",
             Part::Reached => "reached",
             Part::Damaged => "damaged",
+            Part::Totals => "totals",
             Part::Nan => "nan",
             Part::Interleavings => "interleavings",
             Part::Stress => "stress",
@@ -52,9 +59,10 @@ impl Part {
     /// The part's share of the time when all parts run.
     pub fn share(self) -> f64 {
         match self {
-            Part::Scripts | Part::Reached | Part::Damaged => 0.2,
-            Part::Interleavings => 0.2,
-            Part::Stress | Part::Fuzz => 0.1,
+            Part::Reached | Part::Interleavings => 0.2,
+            Part::Scripts | Part::Damaged => 0.15,
+            Part::Sheet | Part::Totals | Part::Stress => 0.08,
+            Part::Fuzz => 0.06,
             Part::Nan => 0.0,
         }
     }
@@ -71,9 +79,10 @@ pub enum Task {
 pub struct Arguments {
     pub task: Task,
     pub budget: Budget,
-    /// The repository that the library and the script program are taken from.
+    /// The repository that the library and the two programs are taken from.
     pub root: PathBuf,
     pub program: Program,
+    pub sheet: Program,
     pub both_sides_model: bool,
 }
 
@@ -90,6 +99,11 @@ pub fn read(words: &[String]) -> Result<Arguments, String> {
         },
         program: Program {
             path: root.join("target/bin/script_main"),
+            model: model::script::run,
+        },
+        sheet: Program {
+            path: root.join("target/bin/sheet_main"),
+            model: model::sheet::run,
         },
         root,
         both_sides_model: false,
@@ -101,6 +115,7 @@ pub fn read(words: &[String]) -> Result<Arguments, String> {
             "--seconds" => arguments.budget.time = seconds(value()?)?,
             "--seed" => arguments.budget.seed = number(value()?)?,
             "--program" => arguments.program.path = value()?.into(),
+            "--sheet" => arguments.sheet.path = value()?.into(),
             "--model" => arguments.both_sides_model = true,
             _ if task == Task::Long => arguments.budget.time = seconds(word)? * 60,
             _ if task == Task::One(Part::Fuzz) => arguments.budget.time = seconds(word)?,

@@ -1,6 +1,7 @@
 //! Desks that no run of calls makes: in form but odd, out of form in one point,
 //! or wild.
 
+use crate::counters;
 use crate::draw::{self, list, message, rank_of, BYTES, NAN_IN};
 use crate::library::Start;
 use crate::posted::{answer_some, commit_some, with_others};
@@ -28,9 +29,10 @@ pub enum Point {
     KeptIndex,
     NoNap,
     Overslept,
+    Totals,
 }
 
-pub const POINTS: [Point; 15] = [
+pub const POINTS: [Point; 16] = [
     Point::PartyCount,
     Point::OwnCount,
     Point::PostedCount,
@@ -46,10 +48,11 @@ pub const POINTS: [Point; 15] = [
     Point::KeptIndex,
     Point::NoNap,
     Point::Overslept,
+    Point::Totals,
 ];
 
-/// A desk in form with any nap, places, lists, signals, wake counts and tickets, and
-/// often without ranks. Records that are no party's hold anything at all.
+/// A desk in form with any nap, places, lists, signals, wake counts, tickets and totals,
+/// and often without ranks. Records that are no party's hold anything at all.
 pub fn odd_desk(random: &mut Random) -> Desk {
     let n = match random.below(4) {
         0 => 2 + random.below(31),
@@ -69,17 +72,16 @@ pub fn odd_desk(random: &mut Random) -> Desk {
             false => Party::fresh(),
         });
     }
-    let next_ticket = Ticket(match random.below(4) {
-        0 => random.pick(&[u32::MAX, u32::MAX - 1]),
-        1 => random.bits(),
-        _ => random.below(6) as u32,
-    });
-    Desk {
+    let mut desk = Desk {
         n,
         nap,
-        next_ticket,
+        next_ticket: Ticket(0),
+        meetings: 0,
+        withdrawn: 0,
         parties,
-    }
+    };
+    counters::fit(random, &mut desk);
+    desk
 }
 
 fn odd_party(random: &mut Random, party: usize, desk: Start) -> Party {
@@ -187,9 +189,19 @@ fn any_nap(random: &mut Random) -> u8 {
     }
 }
 
-/// Spoils a desk in form at one point. Some points need a guard or a partner
-/// first; where the desk has none the answer is false.
+/// Spoils a desk in form at one point, and at no other. Some points need a guard or a
+/// partner first; where the desk has none the answer is false.
 pub fn spoil(random: &mut Random, desk: &mut Desk, point: Point) -> bool {
+    if point == Point::Totals {
+        counters::exceed(random, desk);
+        return true;
+    }
+    let spoiled = spoil_at(random, desk, point);
+    counters::trim(desk);
+    spoiled
+}
+
+fn spoil_at(random: &mut Random, desk: &mut Desk, point: Point) -> bool {
     let (party, n) = (random.below(desk.n), desk.n);
     let beyond = random.pick(&[n, n + 1, 32, 255]).max(n);
     match point {
@@ -289,6 +301,8 @@ pub fn any_desk(random: &mut Random) -> Desk {
         },
         nap,
         next_ticket: Ticket(random.bits()),
+        meetings: counters::any(random),
+        withdrawn: counters::any(random),
         parties: (0..PROCESSES).map(|_| any_party(random, nap)).collect(),
     }
 }
@@ -328,7 +342,7 @@ fn any_list(random: &mut Random) -> Vec<Guard> {
     guards
 }
 
-/// A desk that some calls reach, with one value changed afterwards.
+/// A desk that some calls reach, with one value and mostly the totals changed afterwards.
 pub fn changed_desk(random: &mut Random) -> Desk {
     let n = 2 + random.below(4);
     let nap = draw::nap(random);
@@ -348,6 +362,7 @@ pub fn changed_desk(random: &mut Random) -> Desk {
         let _ = call.on(&mut desk);
     }
     change_one_value(random, &mut desk);
+    counters::loosen(random, &mut desk);
     desk.parties.resize(PROCESSES, Party::fresh());
     desk
 }

@@ -8,11 +8,11 @@ use crate::part::{Budget, Finding, Verdict};
 use crate::plans::guard;
 use crate::random::Random;
 use crate::reduce_desk::reduce;
-use crate::rendezvous::{GUARD_BYTES, GUARD_RANK, HEAD_BYTES, RECORD_BYTES};
+use crate::rendezvous::{GUARD_BYTES, GUARD_RANK, HEAD_BYTES, HEAD_MEETINGS, RECORD_BYTES};
 use crate::rendezvous::{RECORD_KEPT, RECORD_OWN, RECORD_PLACE, RECORD_POSTED};
 use crate::tally::Tally;
 use crate::wire::{decode, encode, normal, Table};
-use model::{Call, Desk, Place};
+use model::{Call, Desk, Place, Ticket};
 
 /// Tables for each seed, and calls on each of them.
 const TABLES: usize = 40;
@@ -79,6 +79,7 @@ fn every_two_ranks(library: &dyn Library) -> Result<(), String> {
     desk.parties[0].place = Place::Trying(0);
     desk.parties[1].posted = vec![guard(0, false, true); 2];
     desk.parties[1].wake_count = 0;
+    desk.next_ticket = Ticket(2);
     let mut table = encode(&desk);
     let rank_at = |list: usize, slot: usize| HEAD_BYTES + list + slot * GUARD_BYTES + GUARD_RANK;
     let call = Call::Step { party: 0 };
@@ -173,11 +174,15 @@ fn random_bytes(random: &mut Random) -> Table {
     for byte in table.bytes_mut() {
         *byte = random.below(most) as u8;
     }
+    // Eight bytes are nearly always too great a total.
+    if random.one_in(2) {
+        table.bytes_mut()[HEAD_MEETINGS..HEAD_BYTES].fill(0);
+    }
     table
 }
 
 /// The complaint, with the smallest table and call that still bring one.
-fn told(library: &dyn Library, table: &Table, call: &Call, text: &str) -> String {
+pub fn told(library: &dyn Library, table: &Table, call: &Call, text: &str) -> String {
     let differs =
         |table: &Table, call: &Call| both(library, table, &mut decode(table), call).is_err();
     let given = (decode(&normal(table)), call.clone());
@@ -197,7 +202,9 @@ fn told(library: &dyn Library, table: &Table, call: &Call, text: &str) -> String
 /// A desk in a few lines: what differs from a fresh one.
 fn show(desk: &Desk) -> String {
     let (n, nap, next) = (desk.n, desk.nap, desk.next_ticket.0);
-    let mut text = format!("n {n}, nap {nap}, next ticket {next}\n");
+    let (meetings, withdrawn) = (desk.meetings, desk.withdrawn);
+    let mut text = format!("n {n}, nap {nap}, next ticket {next}, ");
+    text.push_str(&format!("meetings {meetings}, withdrawn {withdrawn}\n"));
     for (party, record) in desk.parties.iter().enumerate() {
         if *record != model::Party::fresh() {
             text.push_str(&format!("record {party}: {record:?}\n"));
@@ -211,6 +218,7 @@ mod tests {
     use super::*;
     use crate::erring::{Erring, OtherNap, ScansByRank, ERRORS, NAP_ERRORS};
     use crate::erring::{KIND_BLIND, RANK_ERRORS};
+    use crate::miscounting::{MISCOUNTS, OTHER_SUMS};
     use std::time::Duration;
 
     fn found(library: &dyn Library) -> String {
@@ -233,6 +241,16 @@ mod tests {
             let text = found(&OtherNap(error));
             let short = ["nap 1,", "nap 2,"].iter().any(|nap| text.contains(nap));
             assert!(short && text.contains("Asleep("), "{text}");
+        }
+    }
+
+    #[test]
+    fn errors_in_totals_are_found() {
+        let miscounts = MISCOUNTS.iter().map(|library| library as &dyn Library);
+        let other_sums = OTHER_SUMS.iter().map(|library| library as &dyn Library);
+        for library in miscounts.chain(other_sums) {
+            let text = found(library);
+            assert!(text.contains("\ncall: "), "{text}");
         }
     }
 

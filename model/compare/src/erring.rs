@@ -21,7 +21,7 @@ pub const ERRORS: [(Said, Said); 4] = [
 ];
 
 /// The model, but where a withdrawal's right answer is this one, it says the
-/// wrong one and puts the process to I, no more.
+/// wrong one, puts the process to I and counts what it says, no more.
 pub struct Erring {
     pub right: Said,
     pub wrong: Said,
@@ -37,15 +37,16 @@ impl Library for Erring {
         match call {
             Call::Withdraw { party } if reply.answer == self.right => Reply {
                 answer: self.wrong,
-                table: put_to_idle(table, *party),
+                table: put_to_idle(table, *party, &self.wrong),
             },
             _ => reply,
         }
     }
 }
 
-fn put_to_idle(table: &Table, party: usize) -> Table {
+fn put_to_idle(table: &Table, party: usize, said: &Said) -> Table {
     let mut desk = decode(table);
+    desk.withdrawn += u64::from(*said == WITHDRAWN);
     desk.parties[party].place = Place::Idle;
     encode(&desk)
 }

@@ -5,6 +5,8 @@ use crate::draw::BYTES;
 use crate::fit::{fit, kept, none_match};
 use crate::library::{both, line, Library, Reply, Start};
 use crate::reduce::{smallest, with_zeros};
+use crate::rendezvous;
+use crate::sum;
 use crate::wire::{encode, Table};
 use model::{Answer, Book, Call, Desk, Entry, Given, Guard, Meeting, OpenOffer, Ticket};
 use model::{Moment, Told, Withdrawal};
@@ -21,6 +23,9 @@ pub struct Follow {
     /// The tickets that stand in a moment of the run so far: those of a
     /// rendezvous, or the one of a withdrawal.
     pub ended: BTreeSet<Ticket>,
+    /// The rendezvous and the withdrawals of the run so far.
+    met: u64,
+    withdrew: u64,
 }
 
 impl Follow {
@@ -34,6 +39,8 @@ impl Follow {
                 desk,
                 book: Book::default(),
                 ended: BTreeSet::new(),
+                met: 0,
+                withdrew: 0,
             }),
         }
     }
@@ -64,7 +71,8 @@ impl Follow {
             Ok(given) => self.accepted(call, given, entry, &before),
         }?;
         self.open_offers_agree()?;
-        self.offers_end_once()
+        self.offers_end_once()?;
+        self.totals_add_up(&reply.table)
     }
 
     fn accepted(
@@ -139,6 +147,7 @@ impl Follow {
             sender.message() == meeting.message,
             "a rendezvous has another message",
         )?;
+        self.met += 1;
         self.ends(meeting.p_ticket)?;
         self.ends(meeting.q_ticket)
     }
@@ -156,6 +165,7 @@ impl Follow {
                     entry == Entry::Withdrew(offer.ticket),
                     "the book withdraws another offer",
                 )?;
+                self.withdrew += 1;
                 self.ends(offer.ticket)
             }
             (Withdrawal::Withdrawn, None) => Err("what is withdrawn was not open".to_string()),
@@ -183,6 +193,29 @@ impl Follow {
         expect(
             apart && self.ended.len() + open.len() == self.desk.next_ticket.0 as usize,
             "a ticket is not in exactly one of rendezvous, withdrawn and open",
+        )
+    }
+
+    /// The two totals are those of the run, and with the open offers they make up the next
+    /// ticket: in the model and in the bytes.
+    fn totals_add_up(&self, table: &Table) -> Result<(), String> {
+        let (desk, bytes) = (&self.desk, table.bytes());
+        let run = (self.met, self.withdrew);
+        expect(
+            (desk.meetings, desk.withdrawn) == run,
+            "the model's totals are not those of the run",
+        )?;
+        expect(
+            (rendezvous::meetings(bytes), rendezvous::withdrawn(bytes)) == run,
+            "the library's totals are not those of the run",
+        )?;
+        expect(
+            sum::of_desk(desk) == u128::from(desk.next_ticket.0),
+            "the model's totals do not make up its next ticket",
+        )?;
+        expect(
+            sum::of_table(table) == u128::from(rendezvous::offers(bytes)),
+            "the library's totals do not make up its next ticket",
         )
     }
 

@@ -1,6 +1,7 @@
 //! The calls on a table as bytes, whoever answers them, and the
 //! comparison of one call with the model's.
 
+use crate::rendezvous::{HEAD_MEETINGS, HEAD_NEXT, HEAD_WITHDRAWN};
 use crate::rendezvous::{RECORD_ACCEPTING, RECORD_COUNTS, RECORD_INDEX, RECORD_OWN};
 use crate::rendezvous::{RECORD_PLACE, RECORD_POSTED, RECORD_SIGNAL, RECORD_TICKET};
 use crate::wire::{decode, encode, normal, one_nan, Table};
@@ -126,7 +127,8 @@ fn same(given: &Table, expected: &Table) -> Result<(), String> {
     match given.first_difference(expected) {
         None => Ok(()),
         Some(place) => Err(format!(
-            "the table given back is not the model's: {place} (in a record: place {RECORD_PLACE}, \
+            "the table given back is not the model's: {place} (in the head: next ticket {HEAD_NEXT}, \
+             meetings {HEAD_MEETINGS}, withdrawn {HEAD_WITHDRAWN}; in a record: place {RECORD_PLACE}, \
              index or steps at S {RECORD_INDEX}, signal {RECORD_SIGNAL}, ticket {RECORD_TICKET}, \
              accepting {RECORD_ACCEPTING}, counts {RECORD_COUNTS}, own list {RECORD_OWN}, posted \
              list {RECORD_POSTED})"

@@ -1,4 +1,5 @@
-//! Compares the proved library and the script program with the model.
+//! Compares the proved library, the script program and the day sheet's program with the
+//! model.
 //!
 //! The first line of every run names the library that was linked. Each part is a
 //! subcommand and prints one summary line; a difference is told with the seed of
@@ -6,10 +7,13 @@
 //! and the exit status is 0 only if none failed.
 
 mod arguments;
+mod balance;
+mod counters;
 mod crooked;
 mod damage;
 mod damaged;
 mod draw;
+mod edges;
 #[cfg(test)]
 mod erring;
 mod fit;
@@ -19,6 +23,8 @@ mod interleavings;
 mod ledger;
 mod library;
 mod mark;
+#[cfg(test)]
+mod miscounting;
 mod nan;
 mod naps;
 mod pace;
@@ -37,10 +43,15 @@ mod rendezvous;
 mod repository;
 mod scripts;
 mod seen;
+#[cfg(test)]
+mod sessions;
+mod sheet;
 mod sorts;
 mod spoil;
 mod stress;
+mod sum;
 mod tally;
+mod totals;
 mod wire;
 mod write;
 
@@ -122,8 +133,10 @@ fn verdict(arguments: &Arguments, part: Part, budget: Budget) -> Verdict {
     let program = &arguments.program;
     match part {
         Part::Scripts => scripts::run(program, budget),
+        Part::Sheet => sheet::run(&arguments.sheet, budget),
         Part::Reached => reached::run(library, budget),
         Part::Damaged => damaged::run(library, budget),
+        Part::Totals => totals::run(library, budget),
         Part::Nan => nan::run(budget),
         Part::Interleavings => interleavings::run(library, budget),
         Part::Stress => stress::run(library, budget),

@@ -1,4 +1,4 @@
-//! The script program as a child process.
+//! The script program and the sheet's program as child processes.
 
 use std::io::{Read, Write};
 use std::path::PathBuf;
@@ -11,6 +11,8 @@ pub const WHOLE: usize = usize::MAX;
 
 pub struct Program {
     pub path: PathBuf,
+    /// What the model prints for the same input.
+    pub model: fn(&[u8]) -> Vec<u8>,
 }
 
 impl Program {
@@ -34,7 +36,7 @@ impl Program {
 
     /// The program's output, if it is the model's; else how the two differ.
     pub fn compared(&self, input: &[u8], piece: usize) -> Result<Vec<u8>, String> {
-        let expected = model::script::run(input);
+        let expected = (self.model)(input);
         let output = self.run(input, piece)?;
         match output == expected {
             true => Ok(output),

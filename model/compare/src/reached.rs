@@ -237,6 +237,7 @@ mod tests {
     use crate::erring::{Erring, OtherNap, ScansByRank, ERRORS, NAP_ERRORS};
     use crate::erring::{KIND_BLIND, RANK_ERRORS};
     use crate::library::{Modelled, Reply};
+    use crate::miscounting::MISCOUNTS;
     use crate::wire::Table;
     use model::Message;
     use std::time::Duration;
@@ -301,6 +302,15 @@ mod tests {
             let found = (31..62).find_map(|seed| one_run(&library, seed).err());
             let text = found.expect("a difference").text;
             assert!(text.contains("\ns ") && text.lines().count() < 25, "{text}");
+        }
+    }
+
+    #[test]
+    fn errors_in_totals_are_found_and_told_in_few_lines() {
+        for library in &MISCOUNTS {
+            let found = (31..62).find_map(|seed| one_run(library, seed).err());
+            let text = found.expect("a difference").text;
+            assert!(text.lines().count() < 25, "{text}");
         }
     }
 

@@ -6,6 +6,9 @@ use model::{Call, Desk, Guard, Message, Party, Place, Ticket};
 
 type Case = (Desk, Call);
 
+/// Numbers up to this one are made smaller one by one too.
+const STEPWISE: u64 = 100;
+
 /// Tries simpler values one after the other, and keeps each with which the
 /// pair still fails, until none helps.
 pub fn reduce(case: Case, fails: impl Fn(&Desk, &Call) -> bool) -> Case {
@@ -29,11 +32,11 @@ fn simpler(case: &Case) -> Vec<Case> {
         cases.push((smaller, call.clone()));
     }
     cases.extend(shorter_naps(desk).map(|desk| (desk, call.clone())));
-    let ticketless = Desk {
-        next_ticket: Ticket(0),
-        ..desk.clone()
-    };
-    cases.push((ticketless, call.clone()));
+    cases.extend(
+        smaller_totals(desk)
+            .into_iter()
+            .map(|desk| (desk, call.clone())),
+    );
     for party in 0..desk.parties.len() {
         for record in simpler_records(&desk.parties[party]) {
             let mut changed = desk.clone();
@@ -49,6 +52,35 @@ fn simpler(case: &Case) -> Vec<Case> {
         }
     }
     cases
+}
+
+/// Each with a smaller next ticket or a smaller total.
+fn smaller_totals(desk: &Desk) -> Vec<Desk> {
+    let mut desks = Vec::new();
+    let mut with = |change: &dyn Fn(&mut Desk)| {
+        let mut changed = desk.clone();
+        change(&mut changed);
+        desks.push(changed);
+    };
+    for meetings in smaller(desk.meetings) {
+        with(&|desk| desk.meetings = meetings);
+    }
+    for withdrawn in smaller(desk.withdrawn) {
+        with(&|desk| desk.withdrawn = withdrawn);
+    }
+    for next in smaller(u64::from(desk.next_ticket.0)) {
+        with(&|desk| desk.next_ticket = Ticket(next as u32));
+    }
+    desks
+}
+
+/// Plainer numbers below this one. One less is tried only where few steps lead to 0.
+fn smaller(number: u64) -> Vec<u64> {
+    let one_less = number.min(STEPWISE).saturating_sub(1);
+    let plainer = [0, 1, 2, 1 << 31, 1 << 32, 1 << 63, number / 2, one_less];
+    let mut smaller: Vec<u64> = plainer.into_iter().filter(|&less| less < number).collect();
+    smaller.dedup();
+    smaller
 }
 
 /// With a nap of one step, of half the length and of one step less; each also with

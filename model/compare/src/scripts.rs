@@ -52,7 +52,8 @@ impl Sums {
     }
 }
 
-fn lines(bytes: &[u8]) -> impl Iterator<Item = Cow<'_, str>> {
+/// The lines of an input or an output, with their ends.
+pub fn lines(bytes: &[u8]) -> impl Iterator<Item = Cow<'_, str>> {
     let lines = bytes.split_inclusive(|&byte| byte == b'\n');
     lines.map(String::from_utf8_lossy)
 }
@@ -123,11 +124,16 @@ fn same(program: &Program, input: &[u8], piece: usize, sums: &mut Sums) -> Resul
             sums.note(input, &output);
             Ok(())
         }
-        Err(text) if piece == WHOLE => Err(told(program, input, &text)),
-        Err(text) => {
-            let text = told(program, input, &text);
-            Err(format!("in pieces of {piece} bytes: {text}"))
-        }
+        Err(text) => Err(told_in(program, input, piece, &text)),
+    }
+}
+
+/// The complaint about an input that came in such pieces.
+pub fn told_in(program: &Program, input: &[u8], piece: usize, text: &str) -> String {
+    let text = told(program, input, text);
+    match piece {
+        WHOLE => text,
+        _ => format!("in pieces of {piece} bytes: {text}"),
     }
 }
 

@@ -16,6 +16,14 @@ impl Seen {
         self.0.get(name).copied().unwrap_or(0)
     }
 
+    /// How often each of these was seen, one in a line.
+    pub fn listed(&self, names: &[&str]) -> String {
+        let lines = names.iter();
+        lines
+            .map(|name| format!("  {name}: {}\n", self.count(name)))
+            .collect()
+    }
+
     /// The first of these that was never seen.
     pub fn missed(&self, wanted: &[&'static str]) -> Option<String> {
         let missed = wanted.iter().find(|name| self.count(name) == 0);

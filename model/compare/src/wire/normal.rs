@@ -67,8 +67,9 @@ fn one_nan_of(guard: Guard) -> Guard {
 mod tests {
     use super::super::{decode, encode};
     use super::*;
-    use crate::rendezvous::{GUARD_ENABLED, GUARD_KIND, GUARD_RANK, HEAD_NAP, RECORD_INDEX};
-    use crate::rendezvous::{RECORD_KEPT, RECORD_OUTCOME, RECORD_OWN, RECORD_PLACE};
+    use crate::rendezvous::{GUARD_ENABLED, GUARD_KIND, GUARD_RANK, HEAD_MEETINGS, HEAD_NAP};
+    use crate::rendezvous::{HEAD_WITHDRAWN, RECORD_INDEX, RECORD_KEPT, RECORD_OUTCOME};
+    use crate::rendezvous::{RECORD_OWN, RECORD_PLACE};
     use model::Desk;
 
     #[test]
@@ -119,6 +120,18 @@ mod tests {
             // Only C has a kept index.
             table.bytes_mut()[HEAD_BYTES + RECORD_KEPT] = 1;
             assert_eq!(normal(&table).bytes()[HEAD_BYTES + RECORD_KEPT], 0);
+        }
+    }
+
+    #[test]
+    fn totals_are_kept_whatever_they_are() {
+        for total in [0, 1, 1 << 32, 1 << 63, u64::MAX] {
+            let mut table = Table::zero();
+            table.bytes_mut()[HEAD_MEETINGS..HEAD_WITHDRAWN].copy_from_slice(&total.to_le_bytes());
+            table.bytes_mut()[HEAD_WITHDRAWN..HEAD_BYTES].copy_from_slice(&(!total).to_le_bytes());
+            let desk = decode(&table);
+            assert_eq!((desk.meetings, desk.withdrawn), (total, !total));
+            assert_eq!(normal(&table), table);
         }
     }
 

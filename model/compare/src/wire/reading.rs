@@ -13,6 +13,8 @@ pub fn decode(table: &Table) -> Desk {
         n: input.index(),
         nap: input.byte(),
         next_ticket: Ticket(input.word()),
+        meetings: input.long(),
+        withdrawn: input.long(),
         parties: (0..PROCESSES).map(|_| record(&mut input)).collect(),
     }
 }
@@ -29,6 +31,11 @@ impl Reader<'_> {
 
     fn word(&mut self) -> u32 {
         u32::from_le_bytes([self.byte(), self.byte(), self.byte(), self.byte()])
+    }
+
+    fn long(&mut self) -> u64 {
+        let (low, high) = (self.word(), self.word());
+        u64::from(high) << 32 | u64::from(low)
     }
 
     fn index(&mut self) -> usize {

@@ -72,7 +72,7 @@ mod tests {
 
     #[test]
     fn a_table_is_as_long_as_the_document_says() {
-        assert_eq!(Table::zero().bytes().len(), 8134);
+        assert_eq!(Table::zero().bytes().len(), 8150);
     }
 
     #[test]

@@ -10,6 +10,8 @@ pub fn encode(desk: &Desk) -> Table {
     out.push(desk.n as u8);
     out.push(desk.nap);
     out.extend(desk.next_ticket.0.to_le_bytes());
+    out.extend(desk.meetings.to_le_bytes());
+    out.extend(desk.withdrawn.to_le_bytes());
     let fresh = Party::fresh();
     for number in 0..PROCESSES {
         put_record(&mut out, desk.parties.get(number).unwrap_or(&fresh));
@@ -82,10 +84,11 @@ pub fn put_message(out: &mut Vec<u8>, message: Message) {
 #[cfg(test)]
 mod tests {
     use super::*;
-    use crate::rendezvous::{of_kind, of_rank, receives, sends};
-    use crate::rendezvous::{GUARD_BYTES, GUARD_MESSAGE, HEAD_BYTES, HEAD_COUNT, HEAD_NAP};
-    use crate::rendezvous::{HEAD_NEXT, MESSAGE_BYTES, MESSAGE_VARIANT, RECORD_ACCEPTING};
+    use crate::rendezvous::{meetings, of_kind, of_rank, offers, receives, sends, withdrawn};
+    use crate::rendezvous::{GUARD_BYTES, GUARD_MESSAGE, HEAD_BYTES, HEAD_COUNT, HEAD_MEETINGS};
+    use crate::rendezvous::{HEAD_NAP, HEAD_NEXT, HEAD_WITHDRAWN};
     use crate::rendezvous::{LIMIT, NOTHING, READING, WHOLE};
+    use crate::rendezvous::{MESSAGE_BYTES, MESSAGE_VARIANT, RECORD_ACCEPTING};
     use crate::rendezvous::{RECORD_BYTES, RECORD_COUNTS, RECORD_INDEX, RECORD_KEPT};
     use crate::rendezvous::{RECORD_OUTCOME, RECORD_OWN, RECORD_PLACE, RECORD_POSTED};
     use crate::rendezvous::{RECORD_SIGNAL, RECORD_SIGNAL_MESSAGE, RECORD_TICKET};
@@ -103,6 +106,8 @@ mod tests {
     fn the_fields_stand_where_they_should() {
         let mut desk = Desk::new(2, 9).expect("both are good numbers");
         desk.next_ticket = Ticket(0x0403_0201);
+        desk.meetings = 0x0c0b_0a09_0807_0605;
+        desk.withdrawn = u64::MAX - 0x0f;
         let limit = Message::Limit {
             low: 1.0,
             high: -2.0,
@@ -118,7 +123,16 @@ mod tests {
         let table = encode(&desk);
         let (head, records) = table.bytes().split_at(HEAD_BYTES);
         let bytes = &records[RECORD_BYTES..];
-        assert_eq!(head, [2, 9, 1, 2, 3, 4]);
+        assert_eq!(head[..HEAD_MEETINGS], [2, 9, 1, 2, 3, 4]);
+        assert_eq!(
+            head[HEAD_MEETINGS..HEAD_WITHDRAWN],
+            [5, 6, 7, 8, 9, 10, 11, 12]
+        );
+        let most = [0xf0, 255, 255, 255, 255, 255, 255, 255];
+        assert_eq!(head[HEAD_WITHDRAWN..], most);
+        assert_eq!(offers(table.bytes()), desk.next_ticket.0);
+        assert_eq!(meetings(table.bytes()), desk.meetings);
+        assert_eq!(withdrawn(table.bytes()), desk.withdrawn);
         assert_eq!(bytes[RECORD_PLACE], 4);
         assert_eq!(bytes[RECORD_INDEX], 3);
         assert_eq!(bytes[RECORD_KEPT], 7);
