@@ -3,9 +3,9 @@ use mathlib.Core.Bool.{true, false}
 use lib.IntN.{ℤ, pos}
 use lib.Signed.{ltZ}
 use mir.Facts.{toZ-ofZ}
-use Rattle.script_main.proofs.Turns.{read-failed, read-ended, read-some}
-use Rattle.script_main.proofs.answers.after_read.Statement.{statement}
-use Rattle.script_main.proofs.answers.after_read.Tie as tie
+use Rattle.passes.proofs.Turns.{read-failed, read-ended, read-some}
+use Rattle.passes.proofs.answers.after_read.Statement.{statement}
+use Rattle.passes.proofs.answers.after_read.Tie as tie
 
 returns : tie.Need-returns
 returns c = read-failed _ (subst (λ (z : ℤ). ltZ z (pos 0) ≡ true) (toZ-ofZ (c .before .fits .got)) (c .if1 .taken))

@@ -1,8 +1,8 @@
 use borrow.Author.Needs.{needs}
 use Rattle.text.specs.Ascii.{bytes}
-use Rattle.script_main.specs.Turns.{sentenceOf}
-use Rattle.script_main.proofs.tell.Statement.{statement}
-use Rattle.script_main.proofs.tell.Tie as tie
+use Rattle.passes.specs.Turns.{sentenceOf}
+use Rattle.passes.proofs.telling.tell.Statement.{statement}
+use Rattle.passes.proofs.telling.tell.Tie as tie
 
 write-sentence-requires : tie.Need-write-sentence-requires
 unfolding sentenceOf bytes

@@ -1,7 +1,7 @@
-// What the program makes of the operating system's answers.
+// What a program makes of the operating system's answers.
 use crate::Status;
 ghost use mathlib.Core.Path.{_≡_};
-ghost use Rattle.script_main.specs.Turns.{afterRead, afterWrite, isGoing, isEnded};
+ghost use Rattle.passes.specs.Turns.{afterRead, afterWrite, isGoing, isEnded};
 
 // By what `read` returned.
 pub fn after_read(got: isize) -> Status
@@ -35,7 +35,7 @@ pub fn goes_on(status: Status) -> bool
     }
 }
 
-// Only then is an unended last line answered.
+// Only then is what the end prints written.
 pub fn has_ended(status: Status) -> bool
     ensures { λ r. ⌜ r ≡ isEnded status ⌝ }
 {

@@ -1,4 +1,4 @@
--- One pass of the loop, and the passes so far.
+-- One pass of the loop, the passes so far, and the end of the input.
 use Prim.Native.Nat.{ℕ, zero, suc, _+_, _-_, _≤_, _<_}
 use mathlib.Core.Path.{_≡_, refl, sym, _∙_, subst}
 use mathlib.Core.Bool.{Bool, true, false, cond}
@@ -16,9 +16,10 @@ use Rattle.io.specs.Counts.{clamped}
 use Rattle.libc.specs.Io.{Moved}
 use Rattle.script.specs.Feeding.{SessionState, stateHeld, fed, fedPieces}
 use Rattle.script.proofs.Lists.{take-most}
-use Rattle.script_main.specs.declared.Status.the-variants.{Going, Ended, Unreadable, Endless}
-use Rattle.script_main.specs.declared.Progress.{Progress}
-use Rattle.script_main.specs.Turns.{Pass, count, pieceOf, afterRead, afterWrite, isGoing, statusOf, pieces, statusAfter, AllPasses}
+use Rattle.passes.specs.declared.Status.{Status}
+use Rattle.passes.specs.declared.Status.the-variants.{Going, Ended, Unreadable, Unwritable, Endless}
+use Rattle.passes.specs.declared.Progress.{Progress}
+use Rattle.passes.specs.Turns.{Pass, count, pieceOf, afterRead, afterWrite, isGoing, isEnded, statusOf, pieces, statusAfter, AllPasses, AtEnd}
 
 -- what `read` returned, by its sign
 pub read-failed : (z : ℤ) → ltZ z (pos 0) ≡ true → Unreadable ≡ afterRead z
@@ -84,6 +85,16 @@ not-endless p = go (p .got) (p .written)
     go (pos (suc n)) false e = let z : _≡_ {A = ℕ} 0 1 = cc in omega arith
     go (negsuc n) written e = let z : _≡_ {A = ℕ} 0 1 = cc in omega arith
 
+-- .. nor, where its write took all, that one failed
+not-unwritable : (p : Pass) → p .written ≡ true → statusOf p ≡ Unwritable → ⊥
+unfolding statusOf afterRead afterWrite
+not-unwritable p w e = go (p .got) (rw w at e)
+  where
+    go : (z : ℤ) → cond (isGoing (afterRead z)) (afterWrite (afterRead z) true) (afterRead z) ≡ Unwritable → ⊥
+    go (pos zero) e = let z : _≡_ {A = ℕ} 0 1 = cc in omega arith
+    go (pos (suc n)) e = let z : _≡_ {A = ℕ} 0 1 = cc in omega arith
+    go (negsuc n) e = let z : _≡_ {A = ℕ} 0 1 = cc in omega arith
+
 -- The passes so far, after which `left` more may follow: whatever follows them, goes on from here.
 pub record SoFar (s here : SessionState) (left : ℕ) : Type 0 where
   pub passes : List Pass
@@ -121,20 +132,30 @@ module _ (s here : SessionState) (left : ℕ) (so-far : SoFar s here left) where
     state = λ ps. rw (append-assoc, a) (so-far .state (p ∷ ps) ∙ state-goes here p ps e);
   }
 
-  pub stopped : (r : Progress) (p : Pass) → isGoing (r .status) ≡ false → r .status ≡ statusOf p → stateHeld (r .session) ≡ fed here (pieceOf p) .state → AllPasses s r
-  stopped r p e is a =
+  pub stopped : (r : Progress) (prints : Bool) (p : Pass) → isGoing (r .status) ≡ false → (prints ≡ false → p .written ≡ true) → r .status ≡ statusOf p
+      → stateHeld (r .session) ≡ fed here (pieceOf p) .state → AllPasses prints s r
+  stopped r prints p e thrown is a =
       let g : isGoing (statusOf p) ≡ false = rw is at e in (
         so-far .passes ++ p ∷ [],
         is ∙ sym (so-far .status (p ∷ []) ∙ status-stops p [] g),
         a ∙ sym (so-far .state (p ∷ []) ∙ state-stops here p [] g),
         λ q. absurd (not-endless p (sym is ∙ q)),
+        λ silent q. not-unwritable p (thrown silent) (sym is ∙ q),
       )
 
-  pub used-up : (r : Progress) → r .status ≡ Endless → stateHeld (r .session) ≡ here → left ≤ 0 → AllPasses s r
+  pub used-up : (r : Progress) (prints : Bool) → r .status ≡ Endless → stateHeld (r .session) ≡ here → left ≤ 0 → AllPasses prints s r
   unfolding statusAfter pieces fedPieces
-  used-up r is a h = (
+  used-up r prints is a h = (
     so-far .passes ++ [],
     is ∙ sym (so-far .status []),
     a ∙ sym (so-far .state []),
     λ q. rw append-nil (omega (arith, so-far .counted)),
+    λ silent q. let z : _≡_ {A = ℕ} 0 1 = cc in omega arith,
   )
+
+-- the last status, before the end of the input and at it
+pub before-end : (status : Status) → isEnded status ≡ false → AtEnd status status
+before-end status e = (true, rw e)
+
+pub at-end : (before after : Status) (written : Bool) → isEnded before ≡ true → after ≡ afterWrite before written → AtEnd before after
+at-end before after written e h = (written, rw e h)

@@ -1,6 +1,6 @@
-use Rattle.script_main.specs.Turns.{afterWrite}
-use Rattle.script_main.proofs.answers.after_write.Statement.{statement}
-use Rattle.script_main.proofs.answers.after_write.Tie as tie
+use Rattle.passes.specs.Turns.{afterWrite}
+use Rattle.passes.proofs.answers.after_write.Statement.{statement}
+use Rattle.passes.proofs.answers.after_write.Tie as tie
 
 returns : tie.Need-returns
 unfolding afterWrite

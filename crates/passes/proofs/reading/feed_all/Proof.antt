@@ -1,7 +1,7 @@
 use borrow.Author.Needs.{needs}
-use Rattle.script_main.proofs.Whole.{fed-whole}
-use Rattle.script_main.proofs.feed_all.Statement.{statement}
-use Rattle.script_main.proofs.feed_all.Tie as tie
+use Rattle.passes.proofs.Whole.{fed-whole}
+use Rattle.passes.proofs.reading.feed_all.Statement.{statement}
+use Rattle.passes.proofs.reading.feed_all.Tie as tie
 
 returns : tie.Need-returns
 returns c =
