@@ -107,7 +107,7 @@ form-more t k form form′ q below f named e = record { so-far = fits; unfit = �
         tested ∙ rw (f .so-far c, add-one, partner) refl
 
 -- the open offers of the processes below k
-abbrev openBelow : ProcessTable → ℕ → ℕ
+abbrev pub openBelow : ProcessTable → ℕ → ℕ
 openBelow t k = countBelow (λ p. isOpen (process t p)) k
 
 -- each has taken one of the tickets given out, as far as these go

@@ -3,6 +3,7 @@ pub mod Done
 pub mod Forms
 pub mod Lengths
 pub mod Movers
+pub mod Open
 pub mod Sets
 pub mod Steps
 pub mod Unranked

@@ -16,6 +16,7 @@ mod create;
 mod lending;
 mod numbers;
 mod offer;
+mod open_count;
 mod refusals;
 mod runnable;
 mod step;

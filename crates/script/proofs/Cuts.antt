@@ -21,7 +21,7 @@ rest : Option ProcessTable → List ℕ → List ℕ → List ℕ
 rest table begun bs = printedBy table (linesFrom begun bs)
 
 -- one byte more than a line may have tells an overlong line
-cut-command : (line : List ℕ) → lineCommand (Ended (take begunLength line)) ≡ lineCommand (Ended line)
+pub cut-command : (line : List ℕ) → lineCommand (Ended (take begunLength line)) ≡ lineCommand (Ended line)
 unfolding lineCommand
 cut-command line = go (leb (length line) mostBytes) refl
   where
@@ -32,7 +32,7 @@ cut-command line = go (leb (length line) mostBytes) refl
         let g : mostBytes < length (take begunLength line) = simp length-take (omega arith) in
         rw (t, lt-leb (length (take begunLength line)) mostBytes g)
 
-cut-unended : (begun : List ℕ) → unended (take begunLength begun) ≡ unended begun
+pub cut-unended : (begun : List ℕ) → unended (take begunLength begun) ≡ unended begun
 cut-unended [] = refl
 cut-unended (b ∷ begun) = refl
 

@@ -68,6 +68,9 @@ small-length zero d n h = omega arith
 small-length (suc k) zero n h = rw (lt-ltb n 10 h) (omega arith)
 small-length (suc k) (suc d) n h = by-last-digit n (suc d) (decimalUpTo k (n / 10)) (ltb n 10) (small-length k d (n / 10) (omega (arith, pow-suc 10 (suc d))))
 
+pub word-text-length : (n : ℕ) → n < 4294967296 → length (decimalText n) ≤ 10
+word-text-length n h = small-length 19 9 n (omega arith)
+
 pub byte-text-length : (n : ℕ) → n < 256 → length (decimalText n) ≤ 3
 byte-text-length n h = small-length 19 2 n (omega arith)
 

@@ -1,0 +1,9 @@
+use Rattle.sheet.proofs.WorkedOut.{examples-hold}
+use Rattle.sheet.proofs.examples.Statement.{statement}
+use Rattle.sheet.proofs.examples.Tie as tie
+
+returns : tie.Need-returns
+returns c = examples-hold
+
+pub examples-spec : {M : Type 1} → statement M
+examples-spec = tie.close (tie.spec returns)
