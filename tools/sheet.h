@@ -33,8 +33,10 @@ static bool same_sheets(Sheet a, Sheet b) {
     return a.offers == b.offers && a.meetings == b.meetings && a.withdrawn == b.withdrawn && a.open == b.open;
 }
 
-/* What its signer checks. */
-static bool adds_up(Sheet sheet) { return sheet.offers == 2 * sheet.meetings + sheet.withdrawn + sheet.open; }
+/* What its signer checks. The offers have 32 bits, and nothing below them makes the sum overflow. */
+static bool adds_up(Sheet sheet) {
+    return sheet.meetings <= sheet.offers && sheet.withdrawn <= sheet.offers && sheet.offers == 2 * sheet.meetings + sheet.withdrawn + sheet.open;
+}
 
 /* The sheet in words, with that check; where it is not what was counted line by line, that stands beside it. Gives whether all is right. */
 static bool tell_sheet(Sheet sheet, Sheet counted) {

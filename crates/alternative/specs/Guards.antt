@@ -1,6 +1,5 @@
 -- To be believed. Document 01, "The desk and its tasks" and rule 7, and CRs 2 and 5 of document 02: when guards and offers match, and the two searches in a list of guards.
-use Rattle.alternative.specs.Types.{ℕ, suc, Bool, true, false, not, _&&_, _||_, cond, List, [], _∷_, _++_, length, take, drop, replicate, eqb, ltb, Action, Guard}
-use Rattle.alternative.specs.Types.{GuardList, Found}
+use Rattle.alternative.specs.Types.{ℕ, suc, Bool, true, false, not, _&&_, _||_, cond, List, [], _∷_, _++_, length, take, drop, replicate, eqb, ltb, Action, Guard, GuardList, Found}
 
 -- "its list of up to eight guards"
 abbrev pub mostGuards : ℕ

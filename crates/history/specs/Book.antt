@@ -3,8 +3,7 @@ use Rattle.alternative.specs.Guards.{keptMatch}
 use Rattle.alternative.specs.Exchange.{sentBy}
 use Rattle.rendezvous.specs.Numbers.{Said, made, ticket, place, same, outcome, withdrawn, tooLate, movers, refusal}
 use Rattle.rendezvous.specs.Run.{Call, Offer, Step, Collect, Withdraw}
-use Rattle.history.specs.Types.{ℕ, suc, code, Bool, true, false, cond, List, [], _∷_, _++_, Option, some, none, getElem?, eqb, Message, Action, Guard}
-use Rattle.history.specs.Types.{Found}
+use Rattle.history.specs.Types.{ℕ, suc, code, Bool, true, false, cond, List, [], _∷_, _++_, Option, some, none, getElem?, eqb, Message, Action, Guard, Found}
 
 -- "For each party it has an open offer (ticket and guard list) or none, and a due outcome (guard index, partner, message) or none. It also has a next ticket and the
 -- meetings so far": a meeting has "both tickets, p, i, q, j and the sending guard's message".
@@ -46,8 +45,7 @@ pub record History : Type 0 where
 abbrev pub emptyHistory : History
 emptyHistory = record { next = 0; opened = λ p. none; due = λ p. none; run = [] }
 
--- "It is fed each call's arguments other than the desk, whether the call was refused, and the place that a step answers; it sees nothing of the desk." And
--- whether a withdrawal is "answered "withdrawn""
+-- "It is fed each call's arguments other than the desk, whether the call was refused, and the place that a step answers; it sees nothing of the desk." And whether a withdrawal is "answered "withdrawn""
 pub data Seen : Type 0 where
   refused : Seen
   accepted : Seen
@@ -133,8 +131,7 @@ abbrev withdrawing : History → ℕ → Option Transaction → Option History
 withdrawing b p none = none
 withdrawing b p (some o) = some (record { next = b .next; opened = enteredFor p none (b .opened); due = b .due; run = b .run ++ (Withdrew (record { p = p; id = o .id }) ∷ []) })
 
--- the book after a call; "every refused call: nothing changes"; of withdrawals, "any other leaves the book as it was". An answer that no such
--- call gives leaves the book stuck.
+-- the book after a call; "every refused call: nothing changes"; of withdrawals, "any other leaves the book as it was". An answer that no such call gives leaves the book stuck.
 unfoldable pub enter : History → Call → Seen → Option History
 enter b c refused = some b
 enter b (Offer p gs) accepted = offering b p gs (b .opened p) (b .due p)

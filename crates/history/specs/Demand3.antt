@@ -1,5 +1,4 @@
--- To be believed. Demand 3 of document 00, with the withdrawals of CR 1 of document 02: one claim about every list of offers, steps, collections and withdrawals, stated over any
--- machine; `Demand3` is that of the tables.
+-- To be believed. Demand 3 of document 00, with the withdrawals of CR 1 of document 02: one claim about every list of offers, steps, collections and withdrawals, stated over any machine; `Demand3` is that of the tables.
 use Rattle.alternative.specs.Guards.{guardsMatch, offersMatch}
 use Rattle.rendezvous.specs.Table.{mostProcesses, freshTable}
 use Rattle.rendezvous.specs.Numbers.{Said, ticket, outcome, refusal}
@@ -34,8 +33,7 @@ TicketIsNext b (Step p) says after = Unit {0}
 TicketIsNext b (Collect p) says after = Unit {0}
 TicketIsNext b (Withdraw p) says after = Unit {0}
 
--- a collection is refused, or gives what was due. "f32 values are compared by their bits": ≡ on messages does so, for the logic's floats are bits but for the one NaN,
--- and refusal 5 keeps NaNs out of every accepted offer.
+-- a collection is refused, or gives what was due. "f32 values are compared by their bits": ≡ on messages does so, for the logic's floats are bits but for the one NaN, and refusal 5 keeps NaNs out of every accepted offer.
 abbrev pub OutcomeWasDue : History → Call → Said → History → Type 0
 OutcomeWasDue b (Collect p) says after =
     ((number : ℕ) × (says ≡ refusal number)) ⊎ ((d : Due) × (b .due p ≡ some d) × (says ≡ outcome (d .index) (d .partner) (d .message)))

@@ -1,8 +1,7 @@
 -- To be believed. Document 01, "The desk and its tasks", and what CR 3 of document 02 lets S carry: the words, a record and its lists, a fresh record; and from "Calls": an open offer.
 use Prim.Native.String.{[] as end, _∷_ as _then_}
 use Rattle.alternative.specs.Guards.{mostGuards, blank}
-use Rattle.process.specs.Types.{ℕ, code, String, Bool, false, _&&_, _||_, eqb, List, [], Option, some, none, getD, take, replicate, Message, Guard}
-use Rattle.process.specs.Types.{Signal, Place, State, Process}
+use Rattle.process.specs.Types.{ℕ, code, String, Bool, false, _&&_, _||_, eqb, List, [], Option, some, none, getD, take, replicate, Message, Guard, Signal, Place, State, Process}
 
 -- "I idle, E entering, M met", "A scanning, T trying, C committed, P posting, O opening, H showing", "S asleep", "W waiting"
 abbrev pub letterOf : Place → ℕ
@@ -43,8 +42,7 @@ stateOf Place.Showing = State.Alt
 stateOf (Place.Asleep s) = State.Sleeping
 stateOf Place.Waiting = State.Waiting
 
--- What a place carries: at A and T the index of a guard, at C that and the kept index, at S how many own steps were made there (CR 3 of document 02), at M "an outcome (a guard index with a
--- message)", at the others nothing.
+-- What a place carries: at A and T the index of a guard, at C that and the kept index, at S how many own steps were made there (CR 3 of document 02), at M "an outcome (a guard index with a message)", at the others nothing.
 abbrev pub carried {ℓ} : {A : Type ℓ} → A → (ℕ → A) → (ℕ → ℕ → A) → (ℕ → A) → (ℕ → Message → A) → Place → A
 carried other index kept steps outcome (Place.Scanning i) = index i
 carried other index kept steps outcome (Place.Trying i) = index i

@@ -2,9 +2,7 @@
 use Rattle.alternative.specs.Guards.{slots, lent}
 use Rattle.process.specs.Process.{isAt, ifMet, ownGuard}
 use Rattle.process.specs.Rules.{Effect, Neither, Own, Both, changed, atPlace, rule, partnerOf}
-use Rattle.rendezvous.specs.Types.{ℕ, _+_, _≡_, Bool, true, false, not, _&&_, _||_, cond, List, take, Guard, GuardList, TransactionId, Place, Process}
-use Rattle.rendezvous.specs.Types.{Head, ProcessTable, Refusal, Verdict, Answer}
-use Rattle.rendezvous.specs.Types.{Reply}
+use Rattle.rendezvous.specs.Types.{ℕ, _+_, _≡_, Bool, true, false, not, _&&_, _||_, cond, List, take, Guard, GuardList, TransactionId, Place, Process, Head, ProcessTable, Refusal, Verdict, Answer, Reply}
 use Rattle.rendezvous.specs.Table.{process, put, withHead, withNext, withMeeting, withWithdrawal, freshTable}
 use Rattle.rendezvous.specs.Refusals.{createVerdict, processVerdict, offerVerdict, withdrawVerdict}
 
@@ -55,8 +53,7 @@ stepped t p = applied t p (partnerOf (process t p)) (effectOn t p)
 unfoldable pub step : ProcessTable → ℕ → Reply
 step t p = ifAccepted (processVerdict t p) t (stepped t p)
 
--- Collect. It "takes a party at M, gives its outcome's guard index, the partner that this guard of its list names, and the outcome's message .., removes the outcome
--- and sets I."; 13: "a collection from a party that is not at M"
+-- Collect. It "takes a party at M, gives its outcome's guard index, the partner that this guard of its list names, and the outcome's message .., removes the outcome and sets I."; 13: "a collection from a party that is not at M"
 abbrev pub collected : ProcessTable → ℕ → Process → Place → Reply
 collected t p x place = ifMet (refused Refusal.NotMet t)
     (λ i m. record { answer = Answer.Collected i (ownGuard x i .partner) m; table = put t p (atPlace x Place.Idle) }) place

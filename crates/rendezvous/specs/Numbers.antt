@@ -2,12 +2,10 @@
 use Rattle.process.specs.Process.{letterOf, indexOf}
 use Rattle.rendezvous.specs.Types.{ℕ, Option, Message, Refusal, Answer}
 
--- "What turns a call away"
+-- "What turns a call away"; 14 is CR 1's, 15 is CR 3's
 abbrev pub refusalNumber : Refusal → ℕ
 refusalNumber Refusal.ProcessCount = 1
--- CR 3
 refusalNumber Refusal.NapLength = 15
--- document 01
 refusalNumber Refusal.NotWellFormed = 7
 refusalNumber Refusal.NoSuchProcess = 2
 refusalNumber Refusal.GuardCount = 3
@@ -17,7 +15,6 @@ refusalNumber Refusal.NoneEnabled = 6
 refusalNumber Refusal.NotIdle = 11
 refusalNumber Refusal.LastTransaction = 12
 refusalNumber Refusal.NotMet = 13
--- CR 1
 refusalNumber Refusal.NothingToWithdraw = 14
 
 -- What an answer says: a place by its letter, "with the guard index at A, T and C"; an outcome by guard index, partner and message; of a withdrawal "withdrawn" or "too late".

@@ -3,8 +3,7 @@ use Rattle.alternative.specs.Guards.{mostGuards, anyGuard}
 use Rattle.alternative.specs.Exchange.{actionHoldsNan}
 use Rattle.process.specs.Process.{isAt, isIdle}
 use Rattle.process.specs.Fits.{partnerFits}
-use Rattle.rendezvous.specs.Types.{ℕ, Bool, true, false, not, _&&_, List, [], _∷_, take, ltb, leb, Guard, GuardList, TransactionId, Place, Head}
-use Rattle.rendezvous.specs.Types.{ProcessTable, Refusal, Verdict}
+use Rattle.rendezvous.specs.Types.{ℕ, Bool, true, false, not, _&&_, List, [], _∷_, take, ltb, leb, Guard, GuardList, TransactionId, Place, Head, ProcessTable, Refusal, Verdict}
 use Rattle.rendezvous.specs.Table.{lastTransaction, process}
 use Rattle.rendezvous.specs.WellFormed.{countFits, napFits, wellFormed}
 
