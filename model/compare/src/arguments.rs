@@ -166,6 +166,16 @@ mod tests {
     }
 
     #[test]
+    fn each_program_has_its_path() {
+        let read = read_line("all --program one --sheet other").expect("good words");
+        assert_eq!(read.program.path, PathBuf::from("one"));
+        assert_eq!(read.sheet.path, PathBuf::from("other"));
+        let read = read_line("sheet").expect("good words");
+        assert_eq!(read.task, Task::One(Part::Sheet));
+        assert!(read.sheet.path.ends_with("target/bin/sheet_main"));
+    }
+
+    #[test]
     fn times_stand_alone_where_they_may() {
         let fuzz = read_line("fuzz 7").expect("good words");
         assert_eq!(fuzz.budget.time, Duration::from_secs(7));
