@@ -1,6 +1,7 @@
 -- To be believed. CR 6 of document 02, by cases: where its part of refusal 7 begins, what counts as open, which calls count, and what a commit on a damaged table may leave.
 use mathlib.Core.List.{map}
 use Rattle.process.specs.declared.Signal.{Signal}
+use Rattle.process.specs.Process.{freshProcess}
 use Rattle.rendezvous.specs.Table.{withHead, freshTable, openOffers}
 use Rattle.rendezvous.specs.Numbers.{refusal}
 use Rattle.rendezvous.specs.Run.{Call, Offer, Step, Collect, Withdraw, tableAfterAll}
@@ -38,12 +39,16 @@ sums =
 abbrev placed : ℕ → Place → Bool → ProcessTable
 placed next place accepting = table 2 next (by-hand 0 place Signal.Absent accepting (receive 1 ∷ []) [] ∷ by-hand 1 Place.Idle Signal.Absent false [] (receive 0 ∷ []) ∷ [])
 
--- an offer counts as open there, or it does not: with no ticket given out, and with one
+-- an offer counts as open there, so that it needs a ticket, or it does not
 abbrev open-at : Bool → Place → List Case
 open-at accepting place = damaged (placed 0 place accepting) ∷ formed (placed 1 place accepting) ∷ []
 
 abbrev closed-at : Bool → Place → List Case
-closed-at accepting place = formed (placed 0 place accepting) ∷ formed (placed 1 place accepting) ∷ []
+closed-at accepting place = formed (placed 0 place accepting) ∷ []
+
+-- three records of which two are processes: the third, at E, is nobody's
+abbrev past : ℕ → ProcessTable
+past n = table n 0 (freshProcess ∷ freshProcess ∷ by-hand 0 Place.Entering Signal.Absent false (receive 1 ∷ []) [] ∷ [])
 
 -- "the open offers are those of parties at E, A, T, P, O or S, or at H or W with wake count 0": by the place and the wake count
 unfoldable pub opens : List Case
@@ -51,6 +56,7 @@ opens =
     open-at true Place.Entering ++ open-at false Place.Entering ++ open-at false (Place.Scanning 0) ++ open-at false (Place.Trying 0) ++ open-at false Place.Posting
     ++ open-at false Place.Opening ++ open-at false (Place.Asleep 0) ++ open-at true Place.Showing ++ open-at true Place.Waiting
     ++ closed-at false Place.Showing ++ closed-at false Place.Waiting ++ closed-at true (Place.Committed 0 0) ++ closed-at true Place.Idle ++ closed-at true (Place.Met 0 Message.Nothing)
+    ++ formed (past 2) ∷ damaged (past 3) ∷ []
 
 -- offers, meetings, withdrawn, open after calls on a fresh table of two
 abbrev sheetAfter : List Call → List ℕ
@@ -62,7 +68,7 @@ tried = Offer 0 (receive 1 ∷ []) ∷ replicate 5 (Step 0) ++ Offer 1 (send 0 0
 
 abbrev lists : List (List Call)
 lists =
-    -- nothing yet; one offer; a refused one, which counts for nothing
+    -- nothing yet; one offer; refused calls, which count for nothing
     [] ∷ (Offer 0 (receive 1 ∷ []) ∷ []) ∷ (Offer 0 (receive 1 ∷ []) ∷ Offer 0 (receive 1 ∷ []) ∷ Offer 1 [] ∷ Step 2 ∷ Collect 0 ∷ Withdraw 1 ∷ [])
     -- before the commit, at it, too late for both, rules 9 and 13, the collections
     ∷ tried ∷ (tried ++ Step 1 ∷ []) ∷ (tried ++ Step 1 ∷ Withdraw 0 ∷ Withdraw 1 ∷ [])
@@ -84,7 +90,7 @@ sheets =
 abbrev early : ℕ → ProcessTable
 early next = table 2 next (by-hand 0 Place.Entering Signal.Absent true (receive 1 ∷ []) (receive 1 ∷ []) ∷ by-hand 1 (Place.Trying 0) Signal.Absent false (send 0 0x40970a3d ∷ []) [] ∷ [])
 
--- "A commit on a damaged table may leave it out of form": the step answers C, and the next call is refused by 7, unless a ticket is left
+-- Document 01: "A call on a damaged desk may give one that 7 turns away at the next call.": this commit does, and answers C, unless a ticket is left
 unfoldable pub commits : List Case
 commits =
     record { start = early 2; commands = steps 1 ∷ steps 1 ∷ collects 9 ∷ []; says = at "C" (some 0) ∷ refusal 7 ∷ refusal 7 ∷ [] }

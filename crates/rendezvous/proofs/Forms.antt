@@ -161,7 +161,7 @@ forms-are-well-formed t = same-test _ _ there back
         both _ _ (below-fits t n (record { head = both _ _ (a .counted) (a .napped); fitted = a .fitted; enough = omega (arith, a .totalled) }))
         (le-leb (2 * t .head .meetings + t .head .withdrawn) (formBelow t n .left) (omega (arith, a .totalled, below-left t n)))
 
--- By the end of the test no total overflows: both are at most the next ticket, which has fewer bits.
+-- By the end of the test no total overflows: both are at most what is left of the tickets, a number of 32 bits.
 pub form-totals : (form : Form) (h : Head) → formEnd form h ≡ true → 2 * h .meetings + h .withdrawn ≤ form .left
 form-totals form h e = leb-true _ _ (and-parts (form .fits) _ e .1)
 

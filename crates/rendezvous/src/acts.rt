@@ -164,11 +164,11 @@ pub fn withdraw_act(form: Form, head: Head, p: u8, x: Process) -> Act
     match withdraw_verdict(form_end(form, head), head.n, p, place) {
         Verdict::Refused(refusal) => alone(Answer::Refused(refusal), head, x),
         Verdict::Accepted => {
+            let mut after = head;
+            after.withdrawn = head.withdrawn + 1;
             if commit_came_first(place, x.accepting) {
                 alone(Answer::TooLate, head, x)
             } else {
-                let mut after = head;
-                after.withdrawn = head.withdrawn + 1;
                 alone(Answer::Withdrawn, after, given_up(x))
             }
         }
