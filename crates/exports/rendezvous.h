@@ -157,7 +157,7 @@ static inline uint64_t rendezvous_long(const uint8_t *bytes) {
 
 /* The day sheet's totals, of RENDEZVOUS_TABLE_BYTES: how many offers were accepted, which is the next ticket, how many rendezvous were
    committed, and how many offers were withdrawn. The sheet's fourth, how many processes have an open offer, stands in no byte: after
-   any calls from a fresh table, offers = 2 * meetings + withdrawn + open. */
+   any calls from a fresh table, offers = 2 * meetings + withdrawn + open. To check a sheet, count them: examples/link/sheet.c. */
 static inline uint32_t rendezvous_offers(const uint8_t *table) { return rendezvous_word(table + RENDEZVOUS_HEAD_NEXT); }
 
 static inline uint64_t rendezvous_meetings(const uint8_t *table) { return rendezvous_long(table + RENDEZVOUS_HEAD_MEETINGS); }

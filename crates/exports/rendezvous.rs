@@ -233,7 +233,8 @@ pub fn long(bytes: &[u8]) -> u64 {
 
 /// How many offers of a table were accepted, which is its next ticket: the first of the day sheet's
 /// totals. The sheet's fourth, how many processes have an open offer, stands in no byte: after any
-/// calls from a fresh table, offers = 2 * meetings + withdrawn + open.
+/// calls from a fresh table, offers = 2 * meetings + withdrawn + open. To check a sheet, count them:
+/// examples/link/sheet.rs.
 pub fn offers(table: &[u8]) -> u32 {
     word(&table[HEAD_NEXT..])
 }

@@ -50,7 +50,10 @@ static void withdraw(uint8_t p) {
 /* Whether process p has an open offer: at E, A, T, P, O or S, or at H or W with wake count 0. The places' numbers go from I, 0, to M, 10. */
 static bool has_open_offer(uint8_t p) {
     const uint8_t *record = table + RENDEZVOUS_HEAD_BYTES + RENDEZVOUS_RECORD_BYTES * p;
-    char place = "IEATCPOHSWM"[record[RENDEZVOUS_RECORD_PLACE]];
+    const char *places = "IEATCPOHSWM";
+    uint8_t at = record[RENDEZVOUS_RECORD_PLACE];
+    if (at >= strlen(places)) return false;
+    char place = places[at];
     return strchr("EATPOS", place) || (strchr("HW", place) && record[RENDEZVOUS_RECORD_ACCEPTING]);
 }
 

@@ -8,8 +8,8 @@ use text::Text;
 ghost use mathlib.Core.Path.{_≡_};
 ghost use mathlib.Core.Bool.{true};
 ghost use Rattle.text.specs.Writing.{shown};
-ghost use Rattle.script.specs.Feeding.{stateHeld, finished};
-ghost use Rattle.passes.specs.Turns.{isEnded, AtEnd};
+ghost use Rattle.script.specs.Feeding.{start, stateHeld, finished};
+ghost use Rattle.passes.specs.Turns.{isEnded, AllPasses, AtEnd};
 
 // Writes what the end of the input prints, where it has ended, and nothing else.
 fn write_finished(last: Progress, text: Text) -> bool
@@ -19,8 +19,9 @@ fn write_finished(last: Progress, text: Text) -> bool
     passes::write_text(text)
 }
 
-// At the end of the input an unended last line is answered.
+// At the end of the input an unended last line is answered. `last` is where reading from the start, and writing what it prints, has led.
 fn write_end(last: Progress) -> Status
+    requires { ⌜ AllPasses true start last ⌝ }
     ensures { λ r. ⌜ AtEnd (last .status) r ⌝ }
 {
     let status = last.status;

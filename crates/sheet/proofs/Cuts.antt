@@ -6,9 +6,8 @@ use mathlib.Core.List.{List, [], _∷_, _++_, flatten}
 use mathlib.Core.Option.{Option, none}
 use lib.Dec.{eqb}
 use lib.ListN.{take}
-use Rattle.rendezvous.specs.declared.ProcessTable.{ProcessTable}
-use Rattle.rendezvous.specs.Commands.{Command}
 use Rattle.text.proofs.Capped.{take-again}
+use Rattle.script.specs.Types.{ProcessTable, Command}
 use Rattle.script.specs.Printing.{endOfLine}
 use Rattle.script.specs.Lines.{linesFrom, begunLength, lineCommand}
 use Rattle.script.specs.Session.{turn}

@@ -1,3 +1,3 @@
+pub mod ByHand
 pub mod Cuts
 pub mod Totals
-pub mod WorkedOut

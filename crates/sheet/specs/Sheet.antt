@@ -4,8 +4,8 @@ use mathlib.Core.Path.{_≡_}
 use mathlib.Core.List.{List, [], _∷_, _++_, flatten}
 use mathlib.Core.Option.{Option, some, none}
 use Rattle.text.specs.Writing.{decimalText}
-use Rattle.rendezvous.specs.declared.ProcessTable.{ProcessTable}
 use Rattle.rendezvous.specs.Table.{openOffers}
+use Rattle.script.specs.Types.{ProcessTable}
 use Rattle.script.specs.Printing.{field, ended}
 use Rattle.script.specs.Lines.{Line, linesFrom, lineCommand}
 use Rattle.script.specs.Session.{turn}

@@ -6,10 +6,10 @@ use passes::after_write;
 use passes::has_ended;
 use text::Text;
 ghost use mathlib.Core.Path.{_≡_};
-ghost use mathlib.Core.Bool.{true};
+ghost use mathlib.Core.Bool.{true, false};
 ghost use Rattle.text.specs.Writing.{shown};
-ghost use Rattle.script.specs.Feeding.{stateHeld};
-ghost use Rattle.passes.specs.Turns.{isEnded, AtEnd};
+ghost use Rattle.script.specs.Feeding.{start, stateHeld};
+ghost use Rattle.passes.specs.Turns.{isEnded, AllPasses, AtEnd};
 ghost use Rattle.sheet.specs.Sheet.{sheetText};
 
 // Writes the sheet, where the input has ended, and nothing else.
@@ -20,8 +20,10 @@ fn write_sheet(last: Progress, text: Text) -> bool
     passes::write_text(text)
 }
 
-// At the end of the input the sheet is written. Where not all could be read, there is none.
+// At the end of the input the sheet is written; where not all could be read, there is none. `last` is where reading from the start, and
+// writing nothing, has led.
 fn write_end(last: Progress) -> Status
+    requires { ⌜ AllPasses false start last ⌝ }
     ensures { λ r. ⌜ AtEnd (last .status) r ⌝ }
 {
     let status = last.status;

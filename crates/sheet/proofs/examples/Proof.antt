@@ -1,4 +1,4 @@
-use Rattle.sheet.proofs.WorkedOut.{examples-hold}
+use Rattle.sheet.proofs.ByHand.{examples-hold}
 use Rattle.sheet.proofs.examples.Statement.{statement}
 use Rattle.sheet.proofs.examples.Tie as tie
 
