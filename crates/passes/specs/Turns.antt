@@ -82,7 +82,7 @@ AllPasses prints s here =
 abbrev pub AtEnd : Status → Status → Type 0
 AtEnd before after = (written : Bool) × (after ≡ cond (isEnded before) (afterWrite before written) before)
 
--- the sentence on standard error, after the program's name; where nothing has failed there is none
+-- the sentence on standard error, after the program's name, which no contract asks for; where nothing has failed there is none
 unfoldable pub sentenceOf : Status → List ℕ
 sentenceOf Unreadable = bytes ": standard input cannot be read\n"
 sentenceOf Unwritable = bytes ": standard output cannot be written\n"

@@ -11,6 +11,9 @@ use crate::write::script;
 /// Inputs for each seed.
 const INPUTS: usize = 12;
 
+/// Seeds that are tried however short the time is, so that all has been seen.
+const LEAST_SEEDS: usize = 50;
+
 /// The longest line that a script may have, without its end.
 const LONGEST_LINE: usize = 200;
 
@@ -21,7 +24,7 @@ const MET: &str = "meetings";
 const WITHDREW: &str = "withdrawn";
 const OPEN: &str = "open";
 const LATE: &str = "too late, on the last desk";
-const FOUR_DIGITS: &str = "a total of four digits";
+const FOUR_DIGITS: &str = "three totals of four digits";
 const LATER_DESK: &str = "a desk after one with other offers";
 const REFUSED_NEW: &str = "a refused n after offers";
 const MALFORMED: &str = "a malformed line after offers";
@@ -88,22 +91,28 @@ pub fn run(program: &Program, budget: Budget) -> Verdict {
         let same = same(program, &input, WHOLE, &mut sums);
         same.map_err(|text| Finding::new(budget.seed, text))?;
     }
-    for seed in budget.seeds() {
-        let mut random = Random::new(seed);
-        for _ in 0..INPUTS {
-            let input = input(&mut random);
-            let piece = match random.one_in(4) {
-                true => 1 + random.below(30 + input.len() / 10),
-                false => WHOLE,
-            };
-            let same = same(program, &input, piece, &mut sums);
-            same.map_err(|text| Finding::new(seed, text))?;
-        }
+    let least = (0..LEAST_SEEDS as u64).map(|k| budget.seed.wrapping_add(k));
+    for seed in least.chain(budget.seeds().skip(LEAST_SEEDS)) {
+        draw(program, seed, &mut sums).map_err(|text| Finding::new(seed, text))?;
     }
     match sums.seen.missed(&SHOWN) {
         Some(text) => Err(Finding::new(budget.seed, text)),
         None => Ok(sums.told()),
     }
+}
+
+/// The drawn inputs of one seed.
+fn draw(program: &Program, seed: u64, sums: &mut Sums) -> Result<(), String> {
+    let mut random = Random::new(seed);
+    for _ in 0..INPUTS {
+        let input = input(&mut random);
+        let piece = match random.one_in(4) {
+            true => 1 + random.below(30 + input.len() / 10),
+            false => WHOLE,
+        };
+        same(program, &input, piece, sums)?;
+    }
+    Ok(())
 }
 
 impl Sums {
