@@ -1,3 +1,4 @@
+pub mod AddsUp
 pub mod ByHand
 pub mod Cuts
 pub mod Totals

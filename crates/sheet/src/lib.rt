@@ -5,6 +5,7 @@ ghost use mathlib.Core.Path.{_≡_};
 ghost use Rattle.text.specs.Writing.{shown};
 ghost use Rattle.script.specs.Feeding.{stateHeld};
 ghost use Rattle.sheet.specs.Sheet.{totalsText, sheetText, SheetOfPieces};
+ghost use Rattle.sheet.specs.AddsUp.{SheetAddsUp};
 ghost use Rattle.sheet.specs.Examples.{Examples};
 
 // The line of four totals. It has at most 10, 20, 20 and 3 digits, three spaces and the end of line: less than a text holds.
@@ -33,6 +34,11 @@ pub fn sheet(session: Session) -> Text
 // Carries the claim that the way in which the input is cut into pieces does not matter, so that the verdict has a line for it.
 pub fn sheet_of_pieces()
     ensures { λ _. ⌜ SheetOfPieces ⌝ }
+{}
+
+// Carries the claim that the sheet of every script adds up, with the totals of the calls that have led to its table.
+pub fn sheet_adds_up()
+    ensures { λ _. ⌜ SheetAddsUp ⌝ }
 {}
 
 // Carries sheets of short scripts, worked out by hand.
