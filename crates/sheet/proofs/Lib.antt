@@ -1,4 +1,4 @@
-pub mod AddsUp
 pub mod ByHand
 pub mod Cuts
 pub mod Totals
+pub mod AddsUp
