@@ -1,4 +1,4 @@
 pub mod ByHand
 pub mod Cuts
+pub mod Signed
 pub mod Totals
-pub mod AddsUp

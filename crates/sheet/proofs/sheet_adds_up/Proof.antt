@@ -1,4 +1,4 @@
-use Rattle.sheet.proofs.AddsUp.{sheet-adds-up}
+use Rattle.sheet.proofs.Signed.{sheet-adds-up}
 use Rattle.sheet.proofs.sheet_adds_up.Statement.{statement}
 use Rattle.sheet.proofs.sheet_adds_up.Tie as tie
 
