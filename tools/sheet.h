@@ -1,17 +1,32 @@
-/* The day sheet of a table, read out of the table's bytes, for tools/trace.c. */
+/* The day sheet of a table, read out of the table's bytes, for tools/trace.c. docs/BYTES.md says what stands where. */
 #ifndef SHEET_H
 #define SHEET_H
 
 #include "rendezvous.h"
 #include <inttypes.h>
 #include <stdio.h>
+#include <string.h>
+
+/* The letters of the places, by their numbers. */
+static const char places[] = "IEATCPOHSWM";
 
 typedef struct {
     uint64_t offers, meetings, withdrawn, open;
 } Sheet;
 
-static Sheet sheet_in(const rendezvous_table *table) {
-    return (Sheet){rv_offers(table), rv_meetings(table), rv_withdrawn(table), rv_open(table)};
+/* Whether a record has an open offer: at E, A, T, P, O or S, or at H or W with wake count 0. */
+static bool has_open_offer(const uint8_t *record) {
+    uint8_t at = record[RENDEZVOUS_RECORD_PLACE];
+    if (at >= strlen(places)) return false;
+    return strchr("EATPOS", places[at]) || (strchr("HW", places[at]) && record[RENDEZVOUS_RECORD_ACCEPTING]);
+}
+
+/* Offers, meetings and withdrawn stand in the table's head, open is counted. */
+static Sheet sheet_in(const uint8_t *table) {
+    Sheet sheet = {rendezvous_offers(table), rendezvous_meetings(table), rendezvous_withdrawn(table), 0};
+    for (unsigned p = 0; p < table[RENDEZVOUS_HEAD_COUNT] && p < RENDEZVOUS_PROCESSES; p++)
+        sheet.open += has_open_offer(table + RENDEZVOUS_HEAD_BYTES + RENDEZVOUS_RECORD_BYTES * p);
+    return sheet;
 }
 
 static bool same_sheets(Sheet a, Sheet b) {

@@ -59,8 +59,7 @@ typedef struct {
     bool open;                    /* its offer has neither met nor been withdrawn */
 } Process;
 
-static uint8_t session[RENDEZVOUS_SESSION_BYTES], fed[RENDEZVOUS_SESSION_BYTES];
-static rendezvous_table before, after; /* before and after the line */
+static uint8_t before[RENDEZVOUS_SESSION_BYTES], after[RENDEZVOUS_SESSION_BYTES];
 static char piece[PIECE + 1], printed[PIECE * RENDEZVOUS_LINE_BYTES + 1];
 static unsigned long line;
 static Process processes[RENDEZVOUS_PROCESSES];
@@ -77,29 +76,17 @@ static _Noreturn void fail(const char *what) {
     exit(2);
 }
 
-/* Where a record has a list: its partners, and the rest of it. */
-typedef struct {
-    size_t partners, rest;
-} List;
-static const List own_list = {RENDEZVOUS_RECORD_OWN_PARTNERS, RENDEZVOUS_RECORD_OWN};
-static const List posted_list = {RENDEZVOUS_RECORD_POSTED_PARTNERS, RENDEZVOUS_RECORD_POSTED};
-
-/* Guard i of a record's list, as an offer would lend it. */
-static rendezvous_guard guard_at(const uint8_t *process, List list, unsigned i) {
-    const uint8_t *rest = process + list.rest;
-    rendezvous_guard guard = {.enabled = rest[RENDEZVOUS_LIST_ENABLED + i],
-                              .partner = process[list.partners + i],
-                              .kind = rest[RENDEZVOUS_LIST_KINDS + i],
-                              .rank = rest[RENDEZVOUS_LIST_RANKS + i],
-                              .sends = rest[RENDEZVOUS_LIST_SENDS + i]};
-    memcpy(guard.message, rest + RENDEZVOUS_LIST_MESSAGES + RENDEZVOUS_MESSAGE_BYTES * i, sizeof guard.message);
-    return guard;
+static const uint8_t *record(const uint8_t *session, unsigned p) {
+    return session + RENDEZVOUS_SESSION_TABLE + RENDEZVOUS_HEAD_BYTES + RENDEZVOUS_RECORD_BYTES * p;
 }
+
+/* Guard i of a record's list. */
+static const uint8_t *guard_at(const uint8_t *process, unsigned list, unsigned i) { return process + list + RENDEZVOUS_GUARD_BYTES * i; }
 
 static Text message_in(const uint8_t *bytes) {
     Text m = {"0"};
     unsigned variant = bytes[RENDEZVOUS_MESSAGE_VARIANT];
-    unsigned long first = rv_word(bytes + RENDEZVOUS_MESSAGE_FIRST), second = rv_word(bytes + RENDEZVOUS_MESSAGE_SECOND);
+    unsigned long first = rendezvous_word(bytes + RENDEZVOUS_MESSAGE_FIRST), second = rendezvous_word(bytes + RENDEZVOUS_MESSAGE_SECOND);
     if (variant == RENDEZVOUS_WHOLE) snprintf(m.text, sizeof m.text, "w%ld", (long)(int32_t)first);
     if (variant == RENDEZVOUS_READING) snprintf(m.text, sizeof m.text, "r%08lx", first);
     if (variant == RENDEZVOUS_LIMIT) snprintf(m.text, sizeof m.text, "l%08lx%08lx", first, second);
@@ -108,17 +95,20 @@ static Text message_in(const uint8_t *bytes) {
 }
 
 /* The kind and the rank. 0 is shown as scripts mostly write it: left out. */
-static Text marks_in(rendezvous_guard guard) {
+static Text marks_in(const uint8_t *guard) {
     Text m = {""};
-    int length = guard.kind > 0 ? snprintf(m.text, sizeof m.text, ":%u", guard.kind) : 0;
-    if (guard.rank > 0) snprintf(m.text + length, sizeof m.text - length, "^%u", guard.rank);
+    unsigned kind = guard[RENDEZVOUS_GUARD_KIND], rank = guard[RENDEZVOUS_GUARD_RANK];
+    int length = kind > 0 ? snprintf(m.text, sizeof m.text, ":%u", kind) : 0;
+    if (rank > 0) snprintf(m.text + length, sizeof m.text - length, "^%u", rank);
     return m;
 }
 
-static Text guard_in(const uint8_t *process, List list, unsigned i) {
-    rendezvous_guard guard = guard_at(process, list, i);
-    Text g, message = guard.sends ? message_in(guard.message) : (Text){""};
-    snprintf(g.text, sizeof g.text, "%s%u%s%.20s%.8s", guard.enabled ? "" : "-", guard.partner, guard.sends ? "!" : "?", message.text, marks_in(guard).text);
+static Text guard_in(const uint8_t *process, unsigned list, unsigned i) {
+    const uint8_t *bytes = guard_at(process, list, i);
+    bool sends = bytes[RENDEZVOUS_GUARD_SENDS];
+    Text g, message = sends ? message_in(bytes + RENDEZVOUS_GUARD_MESSAGE) : (Text){""};
+    snprintf(g.text, sizeof g.text, "%s%u%s%.20s%.8s", bytes[RENDEZVOUS_GUARD_ENABLED] ? "" : "-", bytes[RENDEZVOUS_GUARD_PARTNER], sends ? "!" : "?",
+             message.text, marks_in(bytes).text);
     return g;
 }
 
@@ -128,9 +118,15 @@ static Text signal_in(const uint8_t *process) {
 
 static Text outcome_in(const uint8_t *process) { return message_in(process + RENDEZVOUS_RECORD_OUTCOME); }
 
-static unsigned long ticket_in(const uint8_t *process) { return rv_word(process + RENDEZVOUS_RECORD_TICKET); }
+static unsigned long ticket_in(const uint8_t *process) { return rendezvous_word(process + RENDEZVOUS_RECORD_TICKET); }
 
 static int wake_count_in(const uint8_t *process) { return !process[RENDEZVOUS_RECORD_ACCEPTING]; }
+
+static char place(const uint8_t *session, unsigned p) {
+    uint8_t at = record(session, p)[RENDEZVOUS_RECORD_PLACE];
+    if (at >= strlen(places)) fail("a process is at no place");
+    return places[at];
+}
 
 /* Takes a mark with 0 out of a guard as written, `:0` or `^0`. The number after a mark has no leading zeros: one that begins with 0 is 0. */
 static void leave_out_zero(char *guard, char mark) {
@@ -252,7 +248,7 @@ static Story *story_of(unsigned p) {
 static void add_seen(Story *story, unsigned p, unsigned what) {
     const Seen *seen = &processes[p].seen[what];
     unsigned i = processes[p].guard;
-    Text guard = guard_in(seen->record, what == OFFERS ? own_list : posted_list, i);
+    Text guard = guard_in(seen->record, what == OFFERS ? RENDEZVOUS_RECORD_OWN : RENDEZVOUS_RECORD_POSTED, i);
     Station *station;
     if (seen->line == 0) return;
     if (what == OFFERS)
@@ -270,7 +266,7 @@ static void add_seen(Story *story, unsigned p, unsigned what) {
 static void see(unsigned p, unsigned what) {
     Seen *seen = &processes[p].seen[what];
     seen->line = line;
-    memcpy(seen->record, rv_record(&after, p), sizeof seen->record);
+    memcpy(seen->record, record(after, p), sizeof seen->record);
 }
 
 static void offers(unsigned p) {
@@ -294,28 +290,28 @@ static void join(Story *story, unsigned p, unsigned i) {
 }
 
 static unsigned posted_count(const uint8_t *process) {
-    unsigned count = process[RENDEZVOUS_RECORD_POSTED_COUNT];
+    unsigned count = process[RENDEZVOUS_RECORD_COUNTS + 1];
     if (count > RENDEZVOUS_GUARDS) fail("a posted list has more guards than there is room for");
     return count;
 }
 
-static unsigned posted_rank(const uint8_t *process, unsigned k) { return guard_at(process, posted_list, k).rank; }
+static unsigned posted_rank(const uint8_t *process, unsigned k) { return guard_at(process, RENDEZVOUS_RECORD_POSTED, k)[RENDEZVOUS_GUARD_RANK]; }
 
 /* Why posted guard k of the partner does not match the guard that process p commits at, which names the partner; NULL if it does. */
-static const char *obstacle(const uint8_t *partner, unsigned k, rendezvous_guard guard, unsigned p) {
-    rendezvous_guard posted = guard_at(partner, posted_list, k);
-    if (!posted.enabled) return "is disabled";
-    if (posted.partner != p) return "names another process";
-    if (posted.sends == guard.sends) return posted.sends ? "sends too" : "receives too";
-    if (posted.kind != guard.kind) return "is of another kind";
+static const char *obstacle(const uint8_t *partner, unsigned k, const uint8_t *guard, unsigned p) {
+    const uint8_t *posted = guard_at(partner, RENDEZVOUS_RECORD_POSTED, k);
+    if (!posted[RENDEZVOUS_GUARD_ENABLED]) return "is disabled";
+    if (posted[RENDEZVOUS_GUARD_PARTNER] != p) return "names another process";
+    if (posted[RENDEZVOUS_GUARD_SENDS] == guard[RENDEZVOUS_GUARD_SENDS]) return posted[RENDEZVOUS_GUARD_SENDS] ? "sends too" : "receives too";
+    if (posted[RENDEZVOUS_GUARD_KIND] != guard[RENDEZVOUS_GUARD_KIND]) return "is of another kind";
     return NULL;
 }
 
 /* Which posted guard of the partner rule 7 keeps: of all that match the one of greatest rank, the first among equals. RENDEZVOUS_GUARDS is
    none: to a guard that is disabled none matches. */
-static unsigned to_keep(const uint8_t *partner, rendezvous_guard guard, unsigned p) {
+static unsigned to_keep(const uint8_t *partner, const uint8_t *guard, unsigned p) {
     unsigned best = RENDEZVOUS_GUARDS;
-    if (!guard.enabled) return best;
+    if (!guard[RENDEZVOUS_GUARD_ENABLED]) return best;
     for (unsigned k = 0; k < posted_count(partner); k++) {
         if (obstacle(partner, k, guard, p)) continue;
         if (best == RENDEZVOUS_GUARDS || posted_rank(partner, k) > posted_rank(partner, best)) best = k;
@@ -326,18 +322,18 @@ static unsigned to_keep(const uint8_t *partner, rendezvous_guard guard, unsigned
 /* What to_keep gives, in words. */
 static Text choice(const uint8_t *partner, unsigned k) {
     Text c = {"any posted guard: none matches"};
-    if (k < RENDEZVOUS_GUARDS) snprintf(c.text, sizeof c.text, "posted guard %u (%.30s)", k, guard_in(partner, posted_list, k).text);
+    if (k < RENDEZVOUS_GUARDS) snprintf(c.text, sizeof c.text, "posted guard %u (%.30s)", k, guard_in(partner, RENDEZVOUS_RECORD_POSTED, k).text);
     return c;
 }
 
 /* Says why posted guard j is the one to keep, where that is not plain from the two guards alone: a guard before it matches with a lower
    rank, or one of higher rank does not match. */
-static void say_why(Station *station, const uint8_t *partner, unsigned j, rendezvous_guard guard, unsigned p) {
+static void say_why(Station *station, const uint8_t *partner, unsigned j, const uint8_t *guard, unsigned p) {
     bool matched = false;
     for (unsigned k = 0; k < posted_count(partner); k++) {
         const char *why_not = obstacle(partner, k, guard, p);
         if (why_not && posted_rank(partner, k) > posted_rank(partner, j))
-            say(station, "; posted guard %u (%s) ranks higher, but %s", k, guard_in(partner, posted_list, k).text, why_not);
+            say(station, "; posted guard %u (%s) ranks higher, but %s", k, guard_in(partner, RENDEZVOUS_RECORD_POSTED, k).text, why_not);
         if (!why_not && !matched && k < j)
             say(station, "; posted guard %u is the first that matches, but its rank is %u", k, posted_rank(partner, k));
         matched = matched || !why_not;
@@ -345,15 +341,15 @@ static void say_why(Station *station, const uint8_t *partner, unsigned j, rendez
 }
 
 static void commits(unsigned p) {
-    const uint8_t *own = rv_record(&after, p);
+    const uint8_t *own = record(after, p);
     unsigned i = own[RENDEZVOUS_RECORD_INDEX], j = own[RENDEZVOUS_RECORD_KEPT];
     if (i >= RENDEZVOUS_GUARDS || j >= RENDEZVOUS_GUARDS) fail("a commit names no guard");
-    rendezvous_guard guard = guard_at(own, own_list, i);
-    unsigned q = guard.partner;
-    bool sends = guard.sends;
+    const uint8_t *guard = guard_at(own, RENDEZVOUS_RECORD_OWN, i);
+    unsigned q = guard[RENDEZVOUS_GUARD_PARTNER];
+    bool sends = guard[RENDEZVOUS_GUARD_SENDS];
     if (q >= RENDEZVOUS_PROCESSES) fail("a commit names no process");
-    const uint8_t *partner = rv_record(&after, q);
-    Text mine = guard_in(own, own_list, i), kept = guard_in(partner, posted_list, j);
+    const uint8_t *partner = record(after, q);
+    Text mine = guard_in(own, RENDEZVOUS_RECORD_OWN, i), kept = guard_in(partner, RENDEZVOUS_RECORD_POSTED, j);
     Text wanted = guard_written(processes[p].offer, i), partners = guard_written(processes[q].offer, j);
     Story *story = begin(sends ? p : q, sends ? q : p, message_written(sends ? wanted : partners));
     counted.meetings++;
@@ -372,7 +368,7 @@ static void commits(unsigned p) {
 static void signals(unsigned p) {
     Story *story = story_of(p);
     unsigned q = story->from == p ? story->to : story->from;
-    Text kept = outcome_in(rv_record(&after, p)), signal = signal_in(rv_record(&after, q));
+    Text kept = outcome_in(record(after, p)), signal = signal_in(record(after, q));
     Station *station = story->from == p
         ? add(story, line, "process %u signals process %u with %s, and keeps %s", p, q, named(signal).text, named(kept).text)
         : add(story, line, "process %u takes %s from the posted list of process %u, and signals it with %s", p, named(kept).text, q, named(signal).text);
@@ -382,7 +378,7 @@ static void signals(unsigned p) {
 
 static void absorbs(unsigned p) {
     Story *story = story_of(p);
-    Text signal = signal_in(rv_record(&before, p)), kept = outcome_in(rv_record(&after, p));
+    Text signal = signal_in(record(before, p)), kept = outcome_in(record(after, p));
     Station *station = add(story, line, "process %u absorbs the signal with %s, and keeps %s", p, named(signal).text, named(kept).text);
     want(station, signal, due(story, p));
     want(station, kept, due(story, p));
@@ -405,19 +401,19 @@ static void tell_all(void) {
 }
 
 /* How many steps of its nap process p has made at S. Of a nap of one step there is nothing to tell. */
-static void tell_nap(const rendezvous_table *table, unsigned p) {
-    unsigned nap = table->bytes[RENDEZVOUS_HEAD_NAP];
-    if (nap > 1) printf("asleep for %u of %u steps, ", rv_record(table, p)[RENDEZVOUS_RECORD_STEPS], nap);
+static void tell_nap(const uint8_t *session, unsigned p) {
+    unsigned nap = session[RENDEZVOUS_SESSION_TABLE + RENDEZVOUS_HEAD_NAP];
+    if (nap > 1) printf("asleep for %u of %u steps, ", record(session, p)[RENDEZVOUS_RECORD_STEPS], nap);
 }
 
 /* Where process p stands. */
-static void tell_place(const rendezvous_table *table, unsigned p) {
+static void tell_place(const uint8_t *session, unsigned p) {
     const Process *process = &processes[p];
-    char at = rv_place(table, p);
+    char at = place(session, p);
     printf(" (at %c", at);
-    if (strchr("ATC", at)) printf("%u", rv_record(table, p)[RENDEZVOUS_RECORD_INDEX]);
+    if (strchr("ATC", at)) printf("%u", record(session, p)[RENDEZVOUS_RECORD_INDEX]);
     printf(" since line %lu, ", process->moved);
-    if (at == 'S') tell_nap(table, p);
+    if (at == 'S') tell_nap(session, p);
     if (process->stepped > 0)
         printf("last step at line %lu)\n", process->stepped);
     else
@@ -425,9 +421,9 @@ static void tell_place(const rendezvous_table *table, unsigned p) {
 }
 
 /* The offer of process p, and where that process stands. */
-static void tell_offer(const rendezvous_table *table, unsigned p) {
-    printf("the offer of process %u at line %lu, ticket %lu", p, processes[p].seen[OFFERS].line, ticket_in(rv_record(table, p)));
-    tell_place(table, p);
+static void tell_offer(const uint8_t *session, unsigned p) {
+    printf("the offer of process %u at line %lu, ticket %lu", p, processes[p].seen[OFFERS].line, ticket_in(record(session, p)));
+    tell_place(session, p);
 }
 
 /* Process p takes its offer back, which no rule lets it do after a commit. */
@@ -436,7 +432,7 @@ static void withdraws(unsigned p) {
     processes[p].open = false;
     counted.withdrawn++;
     printf("withdrawn at line %lu: ", line);
-    tell_offer(&before, p);
+    tell_offer(before, p);
 }
 
 /* Process p would withdraw, and a commit came first. It may ask again and again: the first time is told. */
@@ -454,49 +450,38 @@ static const struct {
              {"C", 'M', signals}, {"W", 'M', absorbs}, {"M", 'I', collects}, {"EATCPOHSW", 'I', withdraws}};
 
 /* An offer that has not met, or an outcome that is not collected. */
-static void tell_left(const rendezvous_table *table, unsigned p) {
+static void tell_left(const uint8_t *session, unsigned p) {
     const Process *process = &processes[p];
     if (process->story > 0) {
         printf("  not collected: %s for process %u of rendezvous %lu", readable(process->due).text, p, process->story);
-        tell_place(table, p);
+        tell_place(session, p);
     } else {
         printf("  not met: ");
-        tell_offer(table, p);
+        tell_offer(session, p);
     }
 }
 
 /* What is left of a table where it ends, under a heading. Gives whether anything is. */
-static bool tell_all_left(const rendezvous_table *table, Text heading) {
+static bool tell_all_left(const uint8_t *session, Text heading) {
     bool any = false;
     for (unsigned p = 0; p < RENDEZVOUS_PROCESSES; p++) {
-        if (rv_place(table, p) == RENDEZVOUS_IDLE) continue;
+        if (place(session, p) == 'I') continue;
         if (!any) puts(heading.text);
-        tell_left(table, p);
+        tell_left(session, p);
         any = true;
     }
     return any;
 }
 
 /* Whether the line changed the bytes of process p from one part of its record up to another. */
-static bool changed(unsigned p, size_t start, size_t end) { return memcmp(rv_record(&before, p) + start, rv_record(&after, p) + start, end - start) != 0; }
-
-static bool message_changed(unsigned p, size_t start) { return changed(p, start, start + RENDEZVOUS_MESSAGE_BYTES); }
-
-/* Of both lists the partners stand side by side, and so does the rest. */
-static bool lists_changed(unsigned p) {
-    return changed(p, RENDEZVOUS_RECORD_OWN_PARTNERS, RENDEZVOUS_RECORD_TICKET) || changed(p, RENDEZVOUS_RECORD_OWN, RENDEZVOUS_RECORD_BYTES);
-}
-
-static bool signal_changed(unsigned p) {
-    return changed(p, RENDEZVOUS_RECORD_SIGNAL, RENDEZVOUS_RECORD_OWN_COUNT) || message_changed(p, RENDEZVOUS_RECORD_SIGNAL_MESSAGE);
-}
+static bool changed(unsigned p, size_t start, size_t end) { return memcmp(record(before, p) + start, record(after, p) + start, end - start) != 0; }
 
 /* Lists change where their process offers or posts, an outcome where it moves, a signal where there was none or it moves. */
 static void see_stray(unsigned p, char from, char to) {
     bool writes = from != to && (to == 'E' || to == 'O');
-    bool lists = !writes && lists_changed(p);
-    bool outcome = from == to && message_changed(p, RENDEZVOUS_RECORD_OUTCOME);
-    bool signal = from == to && rv_record(&before, p)[RENDEZVOUS_RECORD_SIGNAL] && signal_changed(p);
+    bool lists = !writes && changed(p, RENDEZVOUS_RECORD_OWN, RENDEZVOUS_RECORD_BYTES);
+    bool outcome = from == to && changed(p, RENDEZVOUS_RECORD_OUTCOME, RENDEZVOUS_RECORD_SIGNAL);
+    bool signal = from == to && record(before, p)[RENDEZVOUS_RECORD_SIGNAL] && changed(p, RENDEZVOUS_RECORD_SIGNAL, RENDEZVOUS_RECORD_TICKET);
     if (!lists && !outcome && !signal) return;
     printf("line %lu changes the %s of process %u against the rules\n", line, lists ? "lists" : outcome ? "outcome" : "signal", p);
     differs = true;
@@ -509,7 +494,7 @@ static bool arrives(unsigned p, char from, char to) {
 
 /* What the line did to process p. */
 static void look_at(unsigned p) {
-    char from = rv_place(&before, p), to = rv_place(&after, p);
+    char from = place(before, p), to = place(after, p);
     see_stray(p, from, to);
     for (size_t k = 0; from != to && k < sizeof moves / sizeof moves[0]; k++)
         if (strchr(moves[k].from, from) && to == moves[k].to) moves[k].station(p);
@@ -521,7 +506,7 @@ static void begin_table(void) {
     Text heading;
     snprintf(heading.text, sizeof heading.text, "left at line %lu, which makes a new table:", line);
     tell_all();
-    tell_all_left(&before, heading);
+    tell_all_left(before, heading);
     memset(processes, 0, sizeof processes);
     counted = (Sheet){0};
 }
@@ -558,19 +543,17 @@ static size_t read_piece(void) {
 
 static void feed(size_t length) {
     size_t taken = 0, filled = 0;
-    if (!rendezvous_script_feed(session, sizeof session, (const uint8_t *)piece, length, fed, sizeof fed, (uint8_t *)printed, sizeof printed - 1, &taken,
+    memcpy(before, after, sizeof before);
+    if (!rendezvous_script_feed(before, sizeof before, (const uint8_t *)piece, length, after, sizeof after, (uint8_t *)printed, sizeof printed - 1, &taken,
                                 &filled) ||
         taken != length || filled >= sizeof printed)
         fail("the library does not take the next line");
     printed[filled] = 0;
-    memcpy(session, fed, sizeof session);
-    before = after;
-    memcpy(after.bytes, session + RENDEZVOUS_SESSION_TABLE, sizeof after.bytes);
 }
 
 /* A last line that is not ended is refused, and changes nothing. */
 static void finish(void) {
-    if (rendezvous_script_finish(session, sizeof session, (uint8_t *)printed, sizeof printed - 1) == 0) return;
+    if (rendezvous_script_finish(after, sizeof after, (uint8_t *)printed, sizeof printed - 1) == 0) return;
     line++;
     refuse();
 }
@@ -578,13 +561,13 @@ static void finish(void) {
 /* The day sheet of the last table. */
 static void tell_day(void) {
     for (unsigned p = 0; p < RENDEZVOUS_PROCESSES; p++) counted.open += processes[p].open;
-    if (!tell_sheet(sheet_in(&after), counted)) differs = true;
+    if (!tell_sheet(sheet_in(after + RENDEZVOUS_SESSION_TABLE), counted)) differs = true;
 }
 
 static void tell_end(void) {
     tell_all();
     if (rendezvous == 0) puts("no rendezvous");
-    if (!tell_all_left(&after, (Text){"left at the end:"})) puts("left at the end: nothing");
+    if (!tell_all_left(after, (Text){"left at the end:"})) puts("left at the end: nothing");
     tell_day();
     if (refused == 0)
         puts("lines refused: none");
@@ -594,7 +577,7 @@ static void tell_end(void) {
 
 int main(void) {
     size_t length;
-    if (!rendezvous_script_start(session, sizeof session)) fail("the library gives no session");
+    if (!rendezvous_script_start(after, sizeof after)) fail("the library gives no session");
     while ((length = read_piece()) > 0) {
         feed(length);
         if (piece[length - 1] == '\n') look();

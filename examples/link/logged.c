@@ -13,49 +13,44 @@
 #include "rendezvous.h"
 #include <stdio.h>
 #include <stdlib.h>
+#include <string.h>
 
-static rendezvous_table table;
+static uint8_t table[RENDEZVOUS_TABLE_BYTES], after[RENDEZVOUS_TABLE_BYTES], answer[RENDEZVOUS_ANSWER_BYTES];
 static FILE *script;
 
-static void write_message(FILE *to, rendezvous_message message) {
-    unsigned long first = message.first, second = message.second;
-    if (message.variant == RENDEZVOUS_NOTHING) fprintf(to, "0");
-    if (message.variant == RENDEZVOUS_WHOLE) fprintf(to, "w%ld", (long)rv_whole(message));
-    if (message.variant == RENDEZVOUS_READING) fprintf(to, "r%08lx", first);
-    if (message.variant == RENDEZVOUS_LIMIT) fprintf(to, "l%08lx%08lx", first, second);
+static void write_message(FILE *to, const uint8_t *message) {
+    unsigned variant = message[RENDEZVOUS_MESSAGE_VARIANT];
+    unsigned long first = rendezvous_word(message + RENDEZVOUS_MESSAGE_FIRST), second = rendezvous_word(message + RENDEZVOUS_MESSAGE_SECOND);
+    if (variant == RENDEZVOUS_NOTHING) fprintf(to, "0");
+    if (variant == RENDEZVOUS_WHOLE) fprintf(to, "w%ld", (long)(int32_t)first);
+    if (variant == RENDEZVOUS_READING) fprintf(to, "r%08lx", first);
+    if (variant == RENDEZVOUS_LIMIT) fprintf(to, "l%08lx%08lx", first, second);
 }
 
-static void write_guard(FILE *to, const rendezvous_guard *guard) {
-    fprintf(to, " %s%u%c", guard->enabled ? "" : "-", guard->partner, guard->sends ? '!' : '?');
-    if (guard->sends) write_message(to, rv_read_message(guard->message));
-    if (guard->kind != 0) fprintf(to, ":%u", guard->kind);
-    if (guard->rank != 0) fprintf(to, "^%u", guard->rank);
-}
-
-static void print_place(rendezvous_answer answer) {
-    bool indexed = answer.place == RENDEZVOUS_SCANNING || answer.place == RENDEZVOUS_TRYING || answer.place == RENDEZVOUS_COMMITTED;
-    printf(" %c", (char)answer.place);
-    if (indexed) printf("%u", answer.guard);
-}
-
-static void print_outcome(rendezvous_answer answer) {
-    printf(" %u %u ", answer.guard, answer.partner);
-    write_message(stdout, answer.message);
+static void write_guard(FILE *to, const uint8_t *guard) {
+    bool sends = guard[RENDEZVOUS_GUARD_SENDS];
+    fprintf(to, " %s%u%c", guard[RENDEZVOUS_GUARD_ENABLED] ? "" : "-", guard[RENDEZVOUS_GUARD_PARTNER], sends ? '!' : '?');
+    if (sends) write_message(to, guard + RENDEZVOUS_GUARD_MESSAGE);
+    if (guard[RENDEZVOUS_GUARD_KIND] != 0) fprintf(to, ":%u", guard[RENDEZVOUS_GUARD_KIND]);
+    if (guard[RENDEZVOUS_GUARD_RANK] != 0) fprintf(to, "^%u", guard[RENDEZVOUS_GUARD_RANK]);
 }
 
 /* What a call answered, as the script program prints it. */
-static void print_answer(const char *call, rendezvous_answer answer) {
-    if (answer.variant == RENDEZVOUS_REFUSED)
-        printf("x %u", (unsigned)answer.refusal);
+static void print_answer(const char *call) {
+    unsigned variant = answer[RENDEZVOUS_ANSWER_VARIANT], first = answer[RENDEZVOUS_ANSWER_FIRST], second = answer[RENDEZVOUS_ANSWER_SECOND];
+    if (variant == RENDEZVOUS_REFUSED)
+        printf("x %u", first);
     else
         printf("%s", call);
-    if (answer.variant == RENDEZVOUS_OFFERED) printf(" t%lu", (unsigned long)answer.ticket);
-    if (answer.variant == RENDEZVOUS_MOVED) print_place(answer);
-    if (answer.variant == RENDEZVOUS_UNCHANGED) printf(" =");
-    if (answer.variant == RENDEZVOUS_COLLECTED) print_outcome(answer);
-    if (answer.variant == RENDEZVOUS_WITHDRAWN) printf(" ok");
-    if (answer.variant == RENDEZVOUS_TOO_LATE) printf(" late");
-    if (answer.variant == RENDEZVOUS_RUNNABLE) printf(" %08lx", (unsigned long)answer.runnable);
+    if (variant == RENDEZVOUS_OFFERED) printf(" t%lu", (unsigned long)rendezvous_word(answer + RENDEZVOUS_ANSWER_WORD));
+    if (variant == RENDEZVOUS_MOVED) printf(" %c", first);
+    if (variant == RENDEZVOUS_MOVED && strchr("ATC", first)) printf("%u", second);
+    if (variant == RENDEZVOUS_UNCHANGED) printf(" =");
+    if (variant == RENDEZVOUS_COLLECTED) printf(" %u %u ", first, second);
+    if (variant == RENDEZVOUS_COLLECTED) write_message(stdout, answer + RENDEZVOUS_ANSWER_MESSAGE);
+    if (variant == RENDEZVOUS_WITHDRAWN) printf(" ok");
+    if (variant == RENDEZVOUS_TOO_LATE) printf(" late");
+    if (variant == RENDEZVOUS_RUNNABLE) printf(" %08lx", (unsigned long)rendezvous_word(answer + RENDEZVOUS_ANSWER_WORD));
     printf("\n");
 }
 
@@ -73,45 +68,51 @@ static void end_line(void) {
     if (fflush(script) != 0) exit(1);
 }
 
+/* A call with a buffer that is too short does nothing. The table that one hands back is the one for the next call. */
+static void next(bool called, const char *call) {
+    if (!called) exit(1);
+    memcpy(table, after, sizeof table);
+    print_answer(call);
+}
+
 /* Naps of one step are logged as a script mostly writes them: left out, as kind 0 and rank 0 are. */
 static void create(uint8_t n, uint8_t nap) {
     const char *call = begin('n', n);
     if (nap != 1) fprintf(script, " %u", nap);
     end_line();
-    print_answer(call, rv_create(&table, n, nap));
+    next(rendezvous_create(n, nap, after, sizeof after, answer, sizeof answer), call);
 }
 
-static void offer(uint8_t p, const rendezvous_guard *guards, size_t count) {
+static void offer(uint8_t p, const uint8_t *guards, size_t length) {
     const char *call = begin('o', p);
-    for (size_t k = 0; k < count; k++) write_guard(script, &guards[k]);
+    for (size_t at = 0; at + RENDEZVOUS_GUARD_BYTES <= length; at += RENDEZVOUS_GUARD_BYTES) write_guard(script, guards + at);
     end_line();
-    print_answer(call, rv_offer(&table, p, guards, count));
+    next(rendezvous_offer(table, sizeof table, p, guards, length, after, sizeof after, answer, sizeof answer), call);
 }
 
 static void step(uint8_t p) {
     const char *call = begin('s', p);
     end_line();
-    print_answer(call, rv_step(&table, p));
+    next(rendezvous_step(table, sizeof table, p, after, sizeof after, answer, sizeof answer), call);
 }
 
 static void collect(uint8_t p) {
     const char *call = begin('c', p);
     end_line();
-    print_answer(call, rv_collect(&table, p));
+    next(rendezvous_collect(table, sizeof table, p, after, sizeof after, answer, sizeof answer), call);
 }
 
 static void withdraw(uint8_t p) {
     const char *call = begin('w', p);
     end_line();
-    print_answer(call, rv_withdraw(&table, p));
+    next(rendezvous_withdraw(table, sizeof table, p, after, sizeof after, answer, sizeof answer), call);
 }
 
 static bool runnable(void) {
     fprintf(script, "m");
     end_line();
-    rendezvous_answer answer = rv_runnable(&table);
-    print_answer("m", answer);
-    return answer.runnable != 0;
+    next(rendezvous_runnable(table, sizeof table, after, sizeof after, answer, sizeof answer), "m");
+    return rendezvous_word(answer + RENDEZVOUS_ANSWER_WORD) != 0;
 }
 
 /* Rounds in which both processes step once, in number order, until nothing is runnable. */
@@ -120,31 +121,37 @@ static void settle(void) {
         for (uint8_t p = 0; p < 2; p++) step(p);
 }
 
+typedef uint8_t Guard[RENDEZVOUS_GUARD_BYTES];
+
 int main(int count, char **words) {
-    rendezvous_guard not_a_number = rv_send_reading(1, rv_float(0x7fc00000)), reading = rv_send_reading(1, 4.72f);
-    rendezvous_guard taking[2] = {rv_disabled(rv_send_whole(0, -1)), rv_receive(0)};
-    rendezvous_guard limit = rv_send_limit(0, 4.72f, 5), taking_limit = rv_receive(1);
+    Guard not_a_number, reading, taking[2], limit, taking_limit;
+    rendezvous_sends(not_a_number, true, 1, RENDEZVOUS_READING, 0x7fc00000, 0);
+    rendezvous_sends(reading, true, 1, RENDEZVOUS_READING, 0x40970a3d, 0);
+    rendezvous_sends(taking[0], false, 0, RENDEZVOUS_WHOLE, -1, 0);
+    rendezvous_receives(taking[1], true, 0);
+    rendezvous_sends(limit, true, 0, RENDEZVOUS_LIMIT, 0x40970a3d, 0x40a00000);
+    rendezvous_receives(taking_limit, true, 1);
     script = count == 2 ? fopen(words[1], "a") : NULL;
     if (!script) {
         fprintf(stderr, "logged-c LOG: LOG is a file that can be written.\n");
         return 2;
     }
     create(2, 1);
-    offer(0, &not_a_number, 1);
-    offer(0, &reading, 1);
+    offer(0, not_a_number, sizeof not_a_number);
+    offer(0, reading, sizeof reading);
     settle();
-    offer(1, taking, 2);
+    offer(1, taking[0], sizeof taking);
     settle();
     collect(1);
     collect(0);
-    offer(1, &limit, 1);
+    offer(1, limit, sizeof limit);
     settle();
     collect(1);
-    offer(0, &taking_limit, 1);
+    offer(0, taking_limit, sizeof taking_limit);
     settle();
     collect(0);
     collect(1);
-    offer(0, &reading, 1);
+    offer(0, reading, sizeof reading);
     settle();
     withdraw(0);
     step(2);

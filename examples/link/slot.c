@@ -13,6 +13,7 @@
 #include <pthread.h>
 #include <stdio.h>
 #include <stdlib.h>
+#include <string.h>
 #include <time.h>
 
 enum { STORE, RADIO, PROCESSES };
@@ -20,7 +21,8 @@ enum { NAP = 1 }; /* as in tasks.c */
 
 static pthread_mutex_t lock = PTHREAD_MUTEX_INITIALIZER;
 static pthread_cond_t changed = PTHREAD_COND_INITIALIZER;
-static rendezvous_table table; /* under the lock */
+/* Under the lock: the table, and what the last call handed back. */
+static uint8_t table[RENDEZVOUS_TABLE_BYTES], after[RENDEZVOUS_TABLE_BYTES], answer[RENDEZVOUS_ANSWER_BYTES];
 
 /* How the offers of a process ended, and how many withdrawals were too late. */
 typedef struct {
@@ -33,18 +35,39 @@ static _Noreturn void fail(const char *what) {
     exit(1);
 }
 
+/* The table that a call hands back is the one for the next call. */
+static void keep(bool called) {
+    if (!called) fail("a buffer is too short");
+    memcpy(table, after, sizeof table);
+}
+
+static void offer(uint8_t p, const uint8_t *guard) {
+    keep(rendezvous_offer(table, sizeof table, p, guard, RENDEZVOUS_GUARD_BYTES, after, sizeof after, answer, sizeof answer));
+    if (answer[RENDEZVOUS_ANSWER_VARIANT] != RENDEZVOUS_OFFERED) fail("an offer is refused");
+}
+
+/* Every process steps once, in number order. Gives whether that changed anything. */
+static bool round_changes(void) {
+    bool changes = false;
+    for (uint8_t p = 0; p < PROCESSES; p++) {
+        keep(rendezvous_step(table, sizeof table, p, after, sizeof after, answer, sizeof answer));
+        if (answer[RENDEZVOUS_ANSWER_VARIANT] == RENDEZVOUS_MOVED) changes = true;
+    }
+    return changes;
+}
+
 /* Whether process p was at M; the bits of the reading that it collects, if any, go to `taken`. */
 static bool collected(uint8_t p, uint32_t *taken) {
-    rendezvous_answer answer = rv_collect(&table, p);
-    *taken = answer.message.first;
-    return answer.variant == RENDEZVOUS_COLLECTED;
+    keep(rendezvous_collect(table, sizeof table, p, after, sizeof after, answer, sizeof answer));
+    *taken = rendezvous_word(answer + RENDEZVOUS_ANSWER_MESSAGE + RENDEZVOUS_MESSAGE_FIRST);
+    return answer[RENDEZVOUS_ANSWER_VARIANT] == RENDEZVOUS_COLLECTED;
 }
 
 /* Whether the offer of process p is withdrawn. If not, a commit came first. */
 static bool withdrawn(uint8_t p) {
-    rendezvous_answer answer = rv_withdraw(&table, p);
-    if (answer.variant == RENDEZVOUS_TOO_LATE) counts[p].late++;
-    return answer.variant == RENDEZVOUS_WITHDRAWN;
+    keep(rendezvous_withdraw(table, sizeof table, p, after, sizeof after, answer, sizeof answer));
+    if (answer[RENDEZVOUS_ANSWER_VARIANT] == RENDEZVOUS_TOO_LATE) counts[p].late++;
+    return answer[RENDEZVOUS_ANSWER_VARIANT] == RENDEZVOUS_WITHDRAWN;
 }
 
 /* Gives the lock up until another task has met or given up, for a millisecond at most. */
@@ -58,18 +81,18 @@ static void rest(void) {
 }
 
 /* The loop of a task with a time limit: process p offers the guard, and meets, or gives up when its slot of so many rounds closes. */
-static bool meet(uint8_t p, rendezvous_guard guard, uint32_t slot, uint32_t *taken) {
+static bool meet(uint8_t p, const uint8_t *guard, uint32_t slot, uint32_t *taken) {
     bool met = false;
     pthread_mutex_lock(&lock);
-    if (rv_offer(&table, p, &guard, 1).variant != RENDEZVOUS_OFFERED) fail("an offer is refused");
+    offer(p, guard);
     for (uint32_t k = 0; k < slot && !met; k++) {
-        if (!rv_round(&table)) rest();
+        if (!round_changes()) rest();
         met = collected(p, taken);
     }
     if (!met && withdrawn(p)) {
         counts[p].withdrawn++;
     } else {
-        for (; !met; met = collected(p, taken)) rv_round(&table);
+        for (; !met; met = collected(p, taken)) round_changes();
         counts[p].met++;
     }
     pthread_cond_broadcast(&changed);
@@ -78,22 +101,28 @@ static bool meet(uint8_t p, rendezvous_guard guard, uint32_t slot, uint32_t *tak
 }
 
 /* Reading k has the bits of 4.72 and k more, so that no two are alike. */
-enum { READINGS = 1000 };
-static uint32_t reading(uint32_t k) { return rv_bits(4.72f) + k; }
+enum { FIRST_READING = 0x40970a3d, READINGS = 1000 };
+static uint32_t reading(uint32_t k) { return FIRST_READING + k; }
 
 /* Offers each reading until it is met, in slots that are long. */
 static void *store(void *unused) {
+    uint8_t guard[RENDEZVOUS_GUARD_BYTES];
     uint32_t nothing;
-    while (counts[STORE].met < READINGS) meet(STORE, rv_send_reading(RADIO, rv_float(reading(counts[STORE].met))), 100, &nothing);
+    while (counts[STORE].met < READINGS) {
+        rendezvous_sends(guard, true, RADIO, RENDEZVOUS_READING, reading(counts[STORE].met), 0);
+        meet(STORE, guard, 100, &nothing);
+    }
     return unused;
 }
 
 /* Takes every reading, in slots of 0 to 7 rounds: where the store waits, a commit comes in the third. Between two slots the store comes back. */
 static void *radio(void *unused) {
     const struct timespec apart = {.tv_nsec = 100000};
+    uint8_t guard[RENDEZVOUS_GUARD_BYTES];
     uint32_t due, taken;
+    rendezvous_receives(guard, true, STORE);
     for (uint32_t slot = 0; (due = counts[RADIO].met) < READINGS; slot = (slot + 1) % 8) {
-        if (meet(RADIO, rv_receive(STORE), slot, &taken) && taken != reading(due)) fail("a reading is not the one that is due");
+        if (meet(RADIO, guard, slot, &taken) && taken != reading(due)) fail("a reading is not the one that is due");
         nanosleep(&apart, NULL);
     }
     return unused;
@@ -101,12 +130,13 @@ static void *radio(void *unused) {
 
 int main(void) {
     pthread_t storing, listening;
-    rv_create(&table, PROCESSES, NAP);
+    keep(rendezvous_create(PROCESSES, NAP, after, sizeof after, answer, sizeof answer));
     if (pthread_create(&storing, NULL, store, NULL) != 0 || pthread_create(&listening, NULL, radio, NULL) != 0) fail("a thread cannot be made");
     pthread_join(storing, NULL);
     pthread_join(listening, NULL);
     /* Each offer took a ticket; each rendezvous ended two of them, each withdrawal one. */
-    if (rv_offers(&table) != 2 * READINGS + counts[STORE].withdrawn + counts[RADIO].withdrawn) fail("an offer has not ended, or has ended twice");
+    if (rendezvous_word(table + RENDEZVOUS_HEAD_NEXT) != 2 * READINGS + counts[STORE].withdrawn + counts[RADIO].withdrawn)
+        fail("an offer has not ended, or has ended twice");
     if (counts[RADIO].withdrawn == 0 || counts[RADIO].late == 0) fail("no slot closed before the commit, or none after it");
     printf("%d readings, none lost, doubled or altered; every other offer was withdrawn\n", READINGS);
     return 0;

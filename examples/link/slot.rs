@@ -16,7 +16,9 @@
 #[path = "../../crates/exports/rendezvous.rs"]
 mod rendezvous;
 
-use rendezvous::{Guard, Message, Outcome, Table, Withdrawal};
+use rendezvous::{collect, create, offer, receives, sends, step, withdraw, word};
+use rendezvous::{ANSWER_BYTES, ANSWER_MESSAGE, ANSWER_VARIANT, HEAD_NEXT, TABLE_BYTES};
+use rendezvous::{COLLECTED, MESSAGE_FIRST, MOVED, OFFERED, READING, TOO_LATE, WITHDRAWN};
 use std::sync::{Condvar, Mutex};
 use std::thread;
 use std::time::Duration;
@@ -27,52 +29,85 @@ const PROCESSES: u8 = 2;
 /// As in tasks.rs.
 const NAP: u8 = 1;
 
-/// Under the lock: the table, and how many withdrawals were too late.
-struct Locked {
-    table: Table,
+/// The table, what the last call answered, and how many withdrawals were too late.
+struct Table {
+    bytes: [u8; TABLE_BYTES],
+    answer: [u8; ANSWER_BYTES],
     late: u32,
 }
 
-impl Locked {
-    /// A round of steps. Gives whether that changed anything.
-    fn round(&mut self) -> bool {
-        self.table.round().expect("a step is not refused")
+impl Table {
+    fn fresh() -> Table {
+        let (mut bytes, mut answer) = ([0; TABLE_BYTES], [0; ANSWER_BYTES]);
+        assert!(create(PROCESSES, NAP, &mut bytes, &mut answer));
+        Table {
+            bytes,
+            answer,
+            late: 0,
+        }
+    }
+
+    /// The table that a call hands back is the one for the next call. Gives the variant of the answer.
+    fn call(&mut self, called: impl FnOnce(&[u8], &mut [u8], &mut [u8]) -> bool) -> u8 {
+        let mut after = [0; TABLE_BYTES];
+        assert!(called(&self.bytes, &mut after, &mut self.answer));
+        self.bytes = after;
+        self.answer[ANSWER_VARIANT]
+    }
+
+    fn offer(&mut self, p: u8, guard: &[u8]) {
+        let variant = self.call(|table, after, answer| offer(table, p, guard, after, answer));
+        assert_eq!(variant, OFFERED, "an offer is refused");
+    }
+
+    /// Every process steps once, in number order. Gives whether that changed anything.
+    fn round_changes(&mut self) -> bool {
+        let mut changes = false;
+        for p in 0..PROCESSES {
+            changes |= self.call(|table, after, answer| step(table, p, after, answer)) == MOVED;
+        }
+        changes
+    }
+
+    /// The bits of what process p collects, if it is at M.
+    fn collected(&mut self, p: u8) -> Option<u32> {
+        let variant = self.call(|table, after, answer| collect(table, p, after, answer));
+        (variant == COLLECTED).then_some(word(&self.answer[ANSWER_MESSAGE + MESSAGE_FIRST..]))
     }
 
     /// Whether the offer of process p is withdrawn. If not, a commit came first.
     fn withdrawn(&mut self, p: u8) -> bool {
-        let ended = self.table.withdraw(p);
-        self.late += u32::from(ended == Ok(Withdrawal::TooLate));
-        ended == Ok(Withdrawal::Withdrawn)
+        let variant = self.call(|table, after, answer| withdraw(table, p, after, answer));
+        self.late += u32::from(variant == TOO_LATE);
+        variant == WITHDRAWN
     }
 }
 
 struct Shared {
-    locked: Mutex<Locked>,
+    table: Mutex<Table>,
     changed: Condvar,
 }
 
 /// The loop of a task with a time limit: process p offers the guard, and meets, or gives up when
 /// its slot of so many rounds closes.
-fn meet(shared: &Shared, p: u8, guard: Guard, slot: u32) -> Option<Outcome> {
-    let mut locked = shared.locked.lock().unwrap();
+fn meet(shared: &Shared, p: u8, guard: &[u8], slot: u32) -> Option<u32> {
+    let mut table = shared.table.lock().unwrap();
     let mut met = None;
-    let offered = locked.table.offer(p, &[guard]);
-    offered.expect("an offer is accepted");
+    table.offer(p, guard);
     for _ in 0..slot {
-        if !locked.round() {
+        if !table.round_changes() {
             let moment = Duration::from_millis(1);
-            locked = shared.changed.wait_timeout(locked, moment).unwrap().0;
+            table = shared.changed.wait_timeout(table, moment).unwrap().0;
         }
-        met = locked.table.collect(p).ok();
+        met = table.collected(p);
         if met.is_some() {
             break;
         }
     }
-    if met.is_none() && !locked.withdrawn(p) {
+    if met.is_none() && !table.withdrawn(p) {
         while met.is_none() {
-            locked.round();
-            met = locked.table.collect(p).ok();
+            table.round_changes();
+            met = table.collected(p);
         }
     }
     shared.changed.notify_all();
@@ -81,17 +116,17 @@ fn meet(shared: &Shared, p: u8, guard: Guard, slot: u32) -> Option<Outcome> {
 
 const READINGS: u32 = 1000;
 
-/// Reading k has the bits of 4.72 and k more, so that no two are alike; none is 0 or a NaN, so that
-/// equal ones have the same bits.
-fn reading(k: u32) -> Message {
-    Message::Reading(f32::from_bits(4.72_f32.to_bits() + k))
+/// Reading k has the bits of 4.72 and k more, so that no two are alike.
+fn reading(k: u32) -> u32 {
+    4.72_f32.to_bits() + k
 }
 
 /// Offers each reading until it is met, in slots that are long. Gives how many were withdrawn.
 fn store(shared: &Shared) -> u32 {
     let mut withdrawn = 0;
     for k in 0..READINGS {
-        while meet(shared, STORE, Guard::send(RADIO, reading(k)), 100).is_none() {
+        let guard = sends(true, RADIO, READING, reading(k), 0);
+        while meet(shared, STORE, &guard, 100).is_none() {
             withdrawn += 1;
         }
     }
@@ -103,9 +138,9 @@ fn store(shared: &Shared) -> u32 {
 fn radio(shared: &Shared) -> u32 {
     let (mut taken, mut withdrawn) = (0, 0);
     for slot in (0..8).cycle() {
-        match meet(shared, RADIO, Guard::receive(STORE), slot) {
-            Some(outcome) => {
-                assert_eq!(outcome.message, reading(taken), "the reading that is due");
+        match meet(shared, RADIO, &receives(true, STORE), slot) {
+            Some(bits) => {
+                assert_eq!(bits, reading(taken), "the reading that is due");
                 taken += 1;
             }
             None => withdrawn += 1,
@@ -119,9 +154,8 @@ fn radio(shared: &Shared) -> u32 {
 }
 
 fn main() {
-    let table = Table::new(PROCESSES, NAP).expect("a table is made");
     let shared = Shared {
-        locked: Mutex::new(Locked { table, late: 0 }),
+        table: Mutex::new(Table::fresh()),
         changed: Condvar::new(),
     };
     let (stored, listened) = thread::scope(|scope| {
@@ -129,10 +163,11 @@ fn main() {
         let listening = scope.spawn(|| radio(&shared));
         (storing.join().unwrap(), listening.join().unwrap())
     });
-    let Locked { table, late } = shared.locked.into_inner().unwrap();
+    let table = shared.table.into_inner().unwrap();
     // Each offer took a ticket; each rendezvous ended two of them, each withdrawal one.
-    assert_eq!(table.offers(), 2 * READINGS + stored + listened);
+    let tickets = word(&table.bytes[HEAD_NEXT..]);
+    assert_eq!(tickets, 2 * READINGS + stored + listened);
     assert!(listened > 0, "a slot closed before the commit");
-    assert!(late > 0, "and one after it");
+    assert!(table.late > 0, "and one after it");
     println!("{READINGS} readings, none lost, doubled or altered; every other offer was withdrawn");
 }

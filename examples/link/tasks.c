@@ -3,7 +3,7 @@
    target/tasks-c [N]      passes N batches of 100 readings; N is 1,000 if it is not given
 
    The loop. A task takes the lock and offers. Under the same lock it makes rounds, in which EVERY process steps once, in number order,
-   until a round changes nothing: then nothing is runnable (rv_runnable gives 0), and so it is whenever the lock is free. If
+   until a round changes nothing: then nothing is runnable (rendezvous_runnable gives 0), and so it is whenever the lock is free. If
    its process is then at M, so that a collection is not refused by 13, the task collects, wakes the others and goes on. If not, it
    waits to be woken, and looks again.
 
@@ -28,39 +28,77 @@
 #include <pthread.h>
 #include <stdio.h>
 #include <stdlib.h>
+#include <string.h>
 
 enum { SAMPLER, FINDER, PROCESSES };
 enum { NAP = 1 }; /* rounds let every process step between two steps of a sleeper */
 
+/* What a task collects: which of its guards has met, and the message's one or two f32, as bits. */
+typedef struct {
+    uint8_t guard;
+    uint32_t low, high;
+} Outcome;
+
 static pthread_mutex_t lock = PTHREAD_MUTEX_INITIALIZER;
 static pthread_cond_t met = PTHREAD_COND_INITIALIZER;
-static rendezvous_table table; /* under the lock */
+/* Under the lock: the table, and what the last call handed back. */
+static uint8_t table[RENDEZVOUS_TABLE_BYTES], after[RENDEZVOUS_TABLE_BYTES], answer[RENDEZVOUS_ANSWER_BYTES];
 
 static _Noreturn void fail(const char *what) {
     fprintf(stderr, "tasks-c: %s\n", what);
     exit(1);
 }
 
-/* The loop of a task: process p offers the guards, and meets. Gives its outcome. */
-static rendezvous_answer meet(uint8_t p, const rendezvous_guard *guards, size_t count) {
-    pthread_mutex_lock(&lock);
-    if (rv_offer(&table, p, guards, count).variant != RENDEZVOUS_OFFERED) fail("an offer is refused");
-    while (rv_round(&table)) continue;
-    rendezvous_answer outcome = rv_collect(&table, p);
-    if (outcome.variant == RENDEZVOUS_COLLECTED) pthread_cond_broadcast(&met);
-    while (outcome.refusal == RENDEZVOUS_REFUSED_NOT_MET) {
-        pthread_cond_wait(&met, &lock);
-        outcome = rv_collect(&table, p);
+/* The table that a call hands back is the one for the next call. */
+static void keep(bool called) {
+    if (!called) fail("a buffer is too short");
+    memcpy(table, after, sizeof table);
+}
+
+static void offer(uint8_t p, const uint8_t *guards, size_t length) {
+    keep(rendezvous_offer(table, sizeof table, p, guards, length, after, sizeof after, answer, sizeof answer));
+    if (answer[RENDEZVOUS_ANSWER_VARIANT] != RENDEZVOUS_OFFERED) fail("an offer is refused");
+}
+
+/* Every process steps once, in number order. Gives whether that changed anything. */
+static bool round_changes(void) {
+    bool changes = false;
+    for (uint8_t p = 0; p < PROCESSES; p++) {
+        keep(rendezvous_step(table, sizeof table, p, after, sizeof after, answer, sizeof answer));
+        if (answer[RENDEZVOUS_ANSWER_VARIANT] == RENDEZVOUS_MOVED) changes = true;
     }
-    if (outcome.variant != RENDEZVOUS_COLLECTED) fail("a collection is refused");
+    return changes;
+}
+
+/* Whether process p was at M; its outcome is then in the answer. */
+static bool collected(uint8_t p) {
+    keep(rendezvous_collect(table, sizeof table, p, after, sizeof after, answer, sizeof answer));
+    return answer[RENDEZVOUS_ANSWER_VARIANT] == RENDEZVOUS_COLLECTED;
+}
+
+/* The loop of a task: process p offers the guards, and meets. */
+static Outcome meet(uint8_t p, const uint8_t *guards, size_t length) {
+    pthread_mutex_lock(&lock);
+    offer(p, guards, length);
+    while (round_changes()) continue;
+    if (collected(p)) {
+        pthread_cond_broadcast(&met);
+    } else {
+        do pthread_cond_wait(&met, &lock);
+        while (!collected(p));
+    }
+    const uint8_t *message = answer + RENDEZVOUS_ANSWER_MESSAGE;
+    Outcome outcome = {answer[RENDEZVOUS_ANSWER_FIRST], rendezvous_word(message + RENDEZVOUS_MESSAGE_FIRST), rendezvous_word(message + RENDEZVOUS_MESSAGE_SECOND)};
     pthread_mutex_unlock(&lock);
     return outcome;
 }
 
+typedef uint8_t Guard[RENDEZVOUS_GUARD_BYTES];
+
 /* Reading k has the bits of 4.72 and k more, so that no two are alike. A batch is acknowledged by a limit: its first and its last. */
-enum { BATCH = 100 };
+enum { FIRST_READING = 0x40970a3d, BATCH = 100 };
 static uint32_t batches = 1000;
-static uint32_t reading(uint32_t k) { return rv_bits(4.72f) + k; }
+static uint32_t reading(uint32_t k) { return FIRST_READING + k; }
 
 /* What each end has sent and taken. */
 typedef struct {
@@ -70,30 +108,33 @@ static Count sampler, finder;
 
 /* Offers the next reading, while there is one, and to take a limit: whichever comes. */
 static void *sample(void *unused) {
+    Guard guards[2];
     while (sampler.limits < batches) {
-        rendezvous_guard guards[2] = {rv_send_reading(FINDER, rv_float(reading(sampler.readings))), rv_receive(FINDER)};
-        if (sampler.readings == BATCH * batches) guards[0] = rv_disabled(guards[0]);
-        rendezvous_answer outcome = meet(SAMPLER, guards, 2);
+        rendezvous_sends(guards[0], sampler.readings < BATCH * batches, FINDER, RENDEZVOUS_READING, reading(sampler.readings), 0);
+        rendezvous_receives(guards[1], true, FINDER);
+        Outcome outcome = meet(SAMPLER, guards[0], sizeof guards);
         if (outcome.guard == 0) {
             sampler.readings++;
             continue;
         }
         uint32_t first = BATCH * sampler.limits++, last = first + BATCH - 1;
         if (last >= sampler.readings) fail("a limit comes before its readings are sent");
-        if (outcome.message.first != reading(first) || outcome.message.second != reading(last)) fail("a limit is not the one that is due");
+        if (outcome.low != reading(first) || outcome.high != reading(last)) fail("a limit is not the one that is due");
     }
     return unused;
 }
 
 /* Takes a batch of readings and acknowledges it, again and again. */
 static void *find(void *unused) {
-    const rendezvous_guard taking = rv_receive(SAMPLER);
+    Guard guard;
     while (finder.limits < batches) {
         uint32_t first = finder.readings, last = first + BATCH - 1;
-        while (finder.readings <= last)
-            if (meet(FINDER, &taking, 1).message.first != reading(finder.readings++)) fail("a reading is not the one that is due");
-        rendezvous_guard limit = rv_send_limit(SAMPLER, rv_float(reading(first)), rv_float(reading(last)));
-        meet(FINDER, &limit, 1);
+        while (finder.readings <= last) {
+            rendezvous_receives(guard, true, SAMPLER);
+            if (meet(FINDER, guard, sizeof guard).low != reading(finder.readings++)) fail("a reading is not the one that is due");
+        }
+        rendezvous_sends(guard, true, SAMPLER, RENDEZVOUS_LIMIT, reading(first), reading(last));
+        meet(FINDER, guard, sizeof guard);
         finder.limits++;
     }
     return unused;
@@ -102,7 +143,7 @@ static void *find(void *unused) {
 int main(int count, char **words) {
     pthread_t sampling, finding;
     if (count > 1) batches = strtoul(words[1], NULL, 10);
-    rv_create(&table, PROCESSES, NAP);
+    keep(rendezvous_create(PROCESSES, NAP, after, sizeof after, answer, sizeof answer));
     if (pthread_create(&sampling, NULL, sample, NULL) != 0 || pthread_create(&finding, NULL, find, NULL) != 0) fail("a thread cannot be made");
     pthread_join(sampling, NULL);
     pthread_join(finding, NULL);

@@ -20,7 +20,9 @@
 #[path = "../../crates/exports/rendezvous.rs"]
 mod rendezvous;
 
-use rendezvous::{Guard, Message, Outcome, Refusal, Table};
+use rendezvous::{collect, create, offer, receives, sends, step, word};
+use rendezvous::{ANSWER_BYTES, ANSWER_FIRST, ANSWER_MESSAGE, ANSWER_VARIANT, TABLE_BYTES};
+use rendezvous::{COLLECTED, LIMIT, MESSAGE_FIRST, MESSAGE_SECOND, MOVED, OFFERED, READING};
 use std::sync::{Condvar, Mutex};
 use std::thread;
 
@@ -30,42 +32,88 @@ const PROCESSES: u8 = 2;
 /// Rounds let every process step between two steps of a sleeper.
 const NAP: u8 = 1;
 
+/// What a task collects: which of its guards has met, and the message's one or two f32, as bits.
+struct Outcome {
+    guard: u8,
+    low: u32,
+    high: u32,
+}
+
+/// The table, and what the last call answered.
+struct Table {
+    bytes: [u8; TABLE_BYTES],
+    answer: [u8; ANSWER_BYTES],
+}
+
+impl Table {
+    fn fresh() -> Table {
+        let (mut bytes, mut answer) = ([0; TABLE_BYTES], [0; ANSWER_BYTES]);
+        assert!(create(PROCESSES, NAP, &mut bytes, &mut answer));
+        Table { bytes, answer }
+    }
+
+    /// The table that a call hands back is the one for the next call.
+    fn call(&mut self, called: impl FnOnce(&[u8], &mut [u8], &mut [u8]) -> bool) {
+        let mut after = [0; TABLE_BYTES];
+        assert!(called(&self.bytes, &mut after, &mut self.answer));
+        self.bytes = after;
+    }
+
+    fn offer(&mut self, p: u8, guards: &[u8]) {
+        self.call(|table, after, answer| offer(table, p, guards, after, answer));
+        assert_eq!(self.answer[ANSWER_VARIANT], OFFERED, "an offer is refused");
+    }
+
+    /// Every process steps once, in number order. Gives whether that changed anything.
+    fn round_changes(&mut self) -> bool {
+        let mut changes = false;
+        for p in 0..PROCESSES {
+            self.call(|table, after, answer| step(table, p, after, answer));
+            changes |= self.answer[ANSWER_VARIANT] == MOVED;
+        }
+        changes
+    }
+
+    /// The outcome of process p, if it is at M.
+    fn collected(&mut self, p: u8) -> Option<Outcome> {
+        self.call(|table, after, answer| collect(table, p, after, answer));
+        let message = &self.answer[ANSWER_MESSAGE..];
+        (self.answer[ANSWER_VARIANT] == COLLECTED).then_some(Outcome {
+            guard: self.answer[ANSWER_FIRST],
+            low: word(&message[MESSAGE_FIRST..]),
+            high: word(&message[MESSAGE_SECOND..]),
+        })
+    }
+}
+
 struct Shared {
     table: Mutex<Table>,
     met: Condvar,
 }
 
 /// The loop of a task: process p offers the guards, and meets.
-fn meet(shared: &Shared, p: u8, guards: &[Guard]) -> Outcome {
+fn meet(shared: &Shared, p: u8, guards: &[u8]) -> Outcome {
     let mut table = shared.table.lock().unwrap();
-    table.offer(p, guards).expect("an offer is accepted");
-    while table.round().expect("a step is not refused") {}
-    let mut outcome = table.collect(p);
-    if outcome.is_ok() {
+    table.offer(p, guards);
+    while table.round_changes() {}
+    if let Some(outcome) = table.collected(p) {
         shared.met.notify_all();
+        return outcome;
     }
-    while outcome == Err(Refusal::NotMet) {
+    loop {
         table = shared.met.wait(table).unwrap();
-        outcome = table.collect(p);
+        if let Some(outcome) = table.collected(p) {
+            return outcome;
+        }
     }
-    outcome.expect("an outcome is collected")
 }
 
 /// A batch of readings is acknowledged by a limit: its first and its last.
 const BATCH: u32 = 100;
 
-/// Reading k has the bits of 4.72 and k more, so that no two are alike; none is 0 or a NaN, so that
-/// equal ones have the same bits.
-fn reading(k: u32) -> f32 {
-    f32::from_bits(4.72_f32.to_bits() + k)
-}
-
-/// The limit that acknowledges the batch from reading `first` on.
-fn limit(first: u32) -> Message {
-    Message::Limit {
-        low: reading(first),
-        high: reading(first + BATCH - 1),
-    }
+/// Reading k has the bits of 4.72 and k more, so that no two are alike.
+fn reading(k: u32) -> u32 {
+    4.72_f32.to_bits() + k
 }
 
 /// What one end has sent and taken.
@@ -79,16 +127,16 @@ struct Count {
 fn sample(shared: &Shared, batches: u32) -> Count {
     let mut count = Count::default();
     while count.limits < batches {
-        let mut next = Guard::send(FINDER, Message::Reading(reading(count.readings)));
-        next.enabled = count.readings < BATCH * batches;
-        let outcome = meet(shared, SAMPLER, &[next, Guard::receive(FINDER)]);
+        let more = count.readings < BATCH * batches;
+        let next = sends(more, FINDER, READING, reading(count.readings), 0);
+        let outcome = meet(shared, SAMPLER, &[next, receives(true, FINDER)].concat());
         if outcome.guard == 0 {
             count.readings += 1;
             continue;
         }
-        let first = BATCH * count.limits;
-        assert!(first + BATCH <= count.readings, "its readings are sent");
-        assert_eq!(outcome.message, limit(first));
+        let (first, last) = (BATCH * count.limits, BATCH * count.limits + BATCH - 1);
+        assert!(last < count.readings, "its readings are sent");
+        assert_eq!((outcome.low, outcome.high), (reading(first), reading(last)));
         count.limits += 1;
     }
     count
@@ -98,25 +146,26 @@ fn sample(shared: &Shared, batches: u32) -> Count {
 fn find(shared: &Shared, batches: u32) -> Count {
     let mut count = Count::default();
     while count.limits < batches {
-        let first = count.readings;
-        while count.readings < first + BATCH {
-            let outcome = meet(shared, FINDER, &[Guard::receive(SAMPLER)]);
-            assert_eq!(outcome.message, Message::Reading(reading(count.readings)));
+        let (first, last) = (count.readings, count.readings + BATCH - 1);
+        while count.readings <= last {
+            let outcome = meet(shared, FINDER, &receives(true, SAMPLER));
+            assert_eq!(outcome.low, reading(count.readings));
             count.readings += 1;
         }
-        meet(shared, FINDER, &[Guard::send(SAMPLER, limit(first))]);
+        let limit = sends(true, SAMPLER, LIMIT, reading(first), reading(last));
+        meet(shared, FINDER, &limit);
         count.limits += 1;
     }
     count
 }
 
-fn main() -> Result<(), Refusal> {
+fn main() {
     let batches = match std::env::args().nth(1) {
         Some(word) => word.parse().expect("a number of batches"),
         None => 1000,
     };
     let shared = Shared {
-        table: Mutex::new(Table::new(PROCESSES, NAP)?),
+        table: Mutex::new(Table::fresh()),
         met: Condvar::new(),
     };
     let (sampler, finder) = thread::scope(|scope| {
@@ -127,5 +176,4 @@ fn main() -> Result<(), Refusal> {
     assert_eq!(sampler, finder, "the two ends have counted alike");
     let Count { readings, limits } = finder;
     println!("{readings} readings and {limits} limits, none lost, doubled or altered");
-    Ok(())
 }

@@ -1,4 +1,4 @@
-//! Links the library, `exports`, and the loop of `meter`.
+//! Links the loop of `meter`, and `exports` for a step by way of bytes.
 
 fn main() {
     println!("cargo:rustc-link-search=native=../../target/staticlib");

@@ -1,4 +1,6 @@
 // Messages and guards of an alternative: when two guards match, the searches in a list of guards, and what a rendezvous hands over.
+#![tactic(auto)]
+
 ghost use Rattle.std.specs.Prelude.{◌≡◌};
 ghost use Rattle.alternative.specs.Guards.{blank, of_kind, of_rank};
 ghost use Rattle.alternative.specs.Kinds.{KindsRefine};
@@ -11,11 +13,11 @@ mod matching;
 
 pub use exchange::{received, sent};
 pub use floats::{action_holds_nan, bits_of, float_of};
-pub use lists::{blanked, held};
+pub use lists::blanked;
 pub use matching::{any_enabled, kept_match, next_enabled};
 
 // Document 01's message: nothing, a whole number, one reading, or a limit of two readings, low and high.
-#[derive(Drop)]
+#[derive(Clone, Copy)]
 pub enum Message {
     Nothing,
     Whole(i32),
@@ -24,14 +26,14 @@ pub enum Message {
 }
 
 // What a guard does: it receives a message, or it sends the one it holds.
-#[derive(Drop)]
+#[derive(Clone, Copy)]
 pub enum Action {
     Receive,
     Send(Message),
 }
 
 // Document 01's guard, with the kind and the rank that document 02 gives it. `partner` is the number of the process that it names.
-#[derive(Drop)]
+#[derive(Clone, Copy)]
 pub struct Guard {
     pub enabled: bool,
     pub partner: u8,
@@ -41,7 +43,7 @@ pub struct Guard {
 }
 
 // A list of guards as a task offers it: how many there are, and the first eight.
-#[derive(Drop)]
+#[derive(Clone, Copy)]
 pub struct GuardList {
     pub count: usize,
     pub guards: [Guard; 8],
@@ -89,7 +91,7 @@ pub fn of_rank(guard: Guard, rank: u8) -> Guard
 }
 
 // What a search in a list finds: the index of a guard, or none.
-#[derive(Drop)]
+#[derive(Clone, Copy)]
 pub enum Found {
     At(u8),
     Missing,

@@ -1,4 +1,6 @@
 // One line of a script: the command that its bytes write, or malformed.
+#![tactic(auto)]
+
 ghost use Rattle.std.specs.Prelude.{◌≡◌};
 ghost use Rattle.command.specs.Cases.{LineCases};
 ghost use Rattle.command.specs.InCode.{plain};
@@ -19,7 +21,7 @@ mod tables;
 pub use commands::parse;
 
 // Which command a line writes.
-#[derive(Drop)]
+#[derive(Clone, Copy)]
 pub enum Verb {
     Malformed,
     New,
@@ -32,7 +34,7 @@ pub enum Verb {
 
 // A command: its verb, its number, N or P, the nap of a new table, and the guards of an offer. What a verb does not have is 0, or an empty list.
 // It is a struct and no enum with the parts of each verb, since a list of guards is an array.
-#[derive(Drop)]
+#[derive(Clone, Copy)]
 pub struct Parsed {
     pub verb: Verb,
     pub number: u8,
@@ -54,19 +56,19 @@ pub fn plain_command(verb: Verb, number: u8) -> Parsed
 }
 
 // What a part of a line writes, or malformed: a message, an action, a guard.
-#[derive(Drop)]
+#[derive(Clone, Copy)]
 enum ReadMessage {
     Malformed,
     Value(Message),
 }
 
-#[derive(Drop)]
+#[derive(Clone, Copy)]
 enum ReadAction {
     Malformed,
     Value(Action),
 }
 
-#[derive(Drop)]
+#[derive(Clone, Copy)]
 enum ReadGuard {
     Malformed,
     Value(Guard),

@@ -1,26 +1,33 @@
--- What a call leaves, all or nothing.
+-- What a call writes, all or nothing.
 use Prim.Native.Nat.{ℕ}
-use mathlib.Core.Path.{◌≡◌, refl, sym, ap, subst, ◌∙◌}
+use mathlib.Core.Path.{◌≡◌, refl, sym, ◌∙◌}
 use mathlib.Core.Bool.{Bool, true, false, ◌&&◌, false≢true}
 use mathlib.Core.List.{List}
-use Rattle.exports.specs.Types.{Answer, Reply}
-use Rattle.exports.specs.Answers.{is_table, is_answer, answer_onto, InPlace, Asked}
-use Rattle.inplace.specs.Leaves.{Leaves}
+use borrow.Author.Tests.{leb-true}
+use lib.Dec.{leb}
+use lib.ListN.{length}
+use lib.Seq.{sets}
+use Rattle.alternative.proofs.Tests.{and_parts}
+use Rattle.rendezvous.specs.Numbers.{said}
+use Rattle.wire.specs.Claims.{Faithful}
+use Rattle.wire.specs.Layout.{table_length}
+use Rattle.wire.specs.Writing.{bytes_of, onto}
+use Rattle.wire.proofs.Lists.{sets-front}
+use Rattle.exports.specs.Types.{Reply}
+use Rattle.exports.specs.Layout.{answer_length}
+use Rattle.exports.specs.Answers.{said_bytes, is_table, Gives}
 
-module _ (reply : Reply) (t a : List ℕ) where
-  pub left-nothing : (changed : ℕ → Bool) → (is_table t && is_answer a) ≡ false → InPlace reply changed t a t a false
-  left-nothing changed e = record { enough = sym e; short = λ _. refl; leaves = λ f. absurd (false≢true f); says = refl }
+module _ (read : Bool) (reply : Reply) (t a : List ℕ) where
+  abbrev enough : Bool
+  enough = read && is_table t && leb answer_length (length a)
 
-  pub left-whole : (changed : ℕ → Bool) (t' a' : List ℕ) (answer : Answer) → (is_table t && is_answer a) ≡ true → Leaves reply changed t t' answer → a' ≡ answer_onto answer a → InPlace reply changed t a t' a' true
-  left-whole changed t' a' answer e l f = record {
-    enough = sym e;
-    short = λ g. absurd (false≢true (sym g));
-    leaves = λ _. subst (Leaves reply changed t t') l.answers l;
-    says = f ∙ ap (λ (x : Answer). answer_onto x a) l.answers;
-  }
+  pub gives_nothing : enough ≡ false → Gives read reply t a t a false
+  gives_nothing e = record { enough = sym e; table_given = refl; answer_given = refl; faithful = λ y. absurd (false≢true y) }
 
-  pub asked-nothing : (is_table t && is_answer a) ≡ false → Asked reply t a a false
-  asked-nothing e = record { enough = sym e; says = refl }
-
-  pub asked-whole : (a' : List ℕ) (answer : Answer) → (is_table t && is_answer a) ≡ true → answer ≡ reply.answer → a' ≡ answer_onto answer a → Asked reply t a a' true
-  asked-whole a' answer e f g = record { enough = sym e; says = g ∙ ap (λ (x : Answer). answer_onto x a) f }
+  pub gives_both : (t' a' : List ℕ) → enough ≡ true → length (said_bytes (said reply.answer)) ≡ answer_length → t' ≡ onto table_length (bytes_of reply.table) t
+      → a' ≡ sets a 0 (said_bytes (said reply.answer)) → Faithful reply.table → Gives read reply t a t' a' true
+  unfolding onto
+  gives_both t' a' e n et ea f =
+      let w = and_parts (read && is_table t) (leb answer_length (length a)) e in
+      let l : is_table t ≡ true = (and_parts read (is_table t) w.0).1 in
+      record { enough = sym e; table_given = rw l at et; answer_given = ea ∙ sets-front a (said_bytes (said reply.answer)) answer_length n (leb-true answer_length (length a) w.1); faithful = λ y. f }

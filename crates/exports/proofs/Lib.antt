@@ -1,5 +1,4 @@
 pub mod Chains
 pub mod Giving
 pub mod Sessions
-pub mod Spelt
 pub mod Ways

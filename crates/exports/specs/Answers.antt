@@ -1,10 +1,10 @@
--- To be believed. What an exported call leaves: the bytes of the table that it works on, those of the answer, and whether both were long enough.
+-- To be believed. What an exported call hands back: the bytes of the table, those of the answer, and whether the table given and both buffers were long enough.
 use Rattle.rendezvous.specs.Numbers.{Said, said, made, ticket, place, same, outcome, withdrawn, too_late, movers, refusal}
-use Rattle.wire.specs.Writing.{word_bytes, message_bytes}
-use Rattle.inplace.specs.Layout.{table_length}
-use Rattle.inplace.specs.Leaves.{Leaves}
+use Rattle.wire.specs.Claims.{Faithful}
+use Rattle.wire.specs.Layout.{table_length}
+use Rattle.wire.specs.Writing.{word_bytes, message_bytes, bytes_of}
 use Rattle.exports.specs.Layout.{answer_length}
-use Rattle.exports.specs.Types.{ℕ, ◌≡◌, Bool, true, false, ◌&&◌, cond, List, [], ◌∷◌, ◌++◌, flatten, Option, some, none, length, drop, leb, Message, Answer, Reply}
+use Rattle.exports.specs.Types.{ℕ, ◌≡◌, Bool, true, ◌&&◌, cond, List, [], ◌∷◌, ◌++◌, flatten, Option, some, none, length, drop, leb, Message, Reply}
 
 -- the variant of answer and two bytes, a message, a word
 abbrev pub answer_parts : ℕ → ℕ → ℕ → Message → ℕ → List (List ℕ)
@@ -31,26 +31,14 @@ said_bytes (refusal number) = laid_out 6 number 0 Message.Nothing 0
 said_bytes withdrawn = laid_out 7 0 0 Message.Nothing 0
 said_bytes too_late = laid_out 8 0 0 Message.Nothing 0
 
--- whether bytes are enough for a table, and a buffer for an answer
+-- whether bytes are enough for a table
 abbrev pub is_table : List ℕ → Bool
 is_table bytes = leb table_length (length bytes)
 
-abbrev pub is_answer : List ℕ → Bool
-is_answer bytes = leb answer_length (length bytes)
-
--- the answer at the front of its buffer; what stands behind it stays
-abbrev pub answer_onto : Answer → List ℕ → List ℕ
-answer_onto answer buffer = said_bytes (said answer) ++ drop answer_length buffer
-
--- A call on one lent table: its bytes and those of the answer's buffer, as they were and as they are left, and what the call returns: whether both were long enough. If one of them was not, no byte of
--- either changes. Else the bytes of the table are left as `Leaves` says, which stand for the reply's table, and the reply's answer stands at the front of its buffer.
-pub record InPlace (reply : Reply) (changed : ℕ → Bool) (table answer table' answer' : List ℕ) (whole : Bool) : Type 0 where
-  pub enough : whole ≡ (is_table table && is_answer answer)
-  pub short : whole ≡ false → table' ≡ table
-  pub leaves : whole ≡ true → Leaves reply changed table table' reply.answer
-  pub says : answer' ≡ cond whole (answer_onto reply.answer answer) answer
-
--- A question: the table is lent to be read alone.
-pub record Asked (reply : Reply) (table answer answer' : List ℕ) (whole : Bool) : Type 0 where
-  pub enough : whole ≡ (is_table table && is_answer answer)
-  pub says : answer' ≡ cond whole (answer_onto reply.answer answer) answer
+-- The buffers as they were and as they are left, and what the call returns: whether the table that it reads (`read`) and both buffers are long enough. If one of them is not,
+-- nothing is written at all; else the bytes stand at the front of each buffer, and the next call reads the bytes as the very table that this one hands back.
+pub record Gives (read : Bool) (reply : Reply) (table answer table' answer' : List ℕ) (whole : Bool) : Type 0 where
+  pub enough : whole ≡ (read && is_table table && leb answer_length (length answer))
+  pub table_given : table' ≡ cond whole (bytes_of reply.table ++ drop table_length table) table
+  pub answer_given : answer' ≡ cond whole (said_bytes (said reply.answer) ++ drop answer_length answer) answer
+  pub faithful : whole ≡ true → Faithful reply.table

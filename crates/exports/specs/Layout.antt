@@ -3,8 +3,7 @@
 use Rattle.std.specs.Prelude.{◌+◌}
 use Rattle.text.specs.Writing.{line_length}
 use Rattle.script.specs.Lines.{begun_length}
-use Rattle.wire.specs.Layout.{word_length, message_length}
-use Rattle.inplace.specs.Layout.{table_length}
+use Rattle.wire.specs.Layout.{word_length, message_length, table_length}
 use Rattle.exports.specs.Types.{ℕ, ◌≡◌}
 
 -- an answer: its variant, two bytes, a message, a word
@@ -30,4 +29,4 @@ session_length = table_at + table_length
 -- The numbers that docs/BYTES.md gives: where the word of an answer stands, and how long an answer is; where the table of a session stands, and how long a session is. And
 -- the one that rendezvous.h gives: how long a printed line is at most.
 abbrev pub AnswerAndSession : Type 0
-AnswerAndSession = (word_at ≡ 12) × (answer_length ≡ 16) × (table_at ≡ 203) × (session_length ≡ 8427) × (line_length ≡ 64)
+AnswerAndSession = (word_at ≡ 12) × (answer_length ≡ 16) × (table_at ≡ 203) × (session_length ≡ 8353) × (line_length ≡ 64)

@@ -4,8 +4,7 @@ use Rattle.text.specs.Writing.{line_length}
 use Rattle.script.specs.Lines.{begun_length}
 use Rattle.script.specs.Feeding.{SessionState, start, table_if, fed, finished}
 use Rattle.script.specs.Session.{output}
-use Rattle.wire.specs.Reading.{byte}
-use Rattle.inplace.specs.Reading.{table_of}
+use Rattle.wire.specs.Reading.{byte, table_of}
 use Rattle.exports.specs.Layout.{begun_at, table_at, session_length}
 use Rattle.exports.specs.Types.{ℕ, ◌≡◌, Bool, true, false, ◌&&◌, cond, List, [], ◌∷◌, ◌++◌, flatten, length, take, drop, replicate, leb}
 

@@ -1,24 +1,26 @@
-// What a call says, in bytes.
-ghost use Rattle.std.specs.Prelude.{◌≡◌, true, ◌&&◌};
+// What a call hands back, in bytes.
+ghost use Rattle.std.specs.Prelude.{◌≡◌};
 ghost use Rattle.rendezvous.specs.Numbers.{said};
 ghost use Rattle.process.specs.Process.{index_of};
-ghost use Rattle.exports.specs.Answers.{laid_out, index_byte, said_bytes, is_table, is_answer, answer_onto};
+ghost use Rattle.exports.specs.Answers.{laid_out, index_byte, said_bytes, is_table, Gives};
 
 use crate::layout;
 use alternative::Message;
-use inplace::TABLE_BYTES;
 use process::Place;
-use rendezvous::Answer;
-use wire::{message_bytes, word_bytes};
+use rendezvous::{Answer, Reply};
+use wire::{TABLE_BYTES, encode, message_bytes, put_bytes, word_bytes};
 
 fn laid_out(variant: u8, a: u8, b: u8, m: Message, word: u32) -> [u8; layout::ANSWER_BYTES]
     ensures { result ≡ laid_out variant a b m word }
 {
-    let x = message_bytes(m);
-    let w = word_bytes(word);
-    [
-        variant, a, b, x[0], x[1], x[2], x[3], x[4], x[5], x[6], x[7], x[8], w[0], w[1], w[2], w[3],
-    ]
+    let mut out = [0u8; layout::ANSWER_BYTES];
+    let three = [variant, a, b];
+    put_bytes(&mut out, 0, &three);
+    let message = message_bytes(m);
+    put_bytes(&mut out, layout::MESSAGE_AT, &message);
+    let number = word_bytes(word);
+    put_bytes(&mut out, layout::WORD_AT, &number);
+    out
 }
 
 // A place's guard index, 0 where it has none.
@@ -62,22 +64,25 @@ fn answer_bytes(answer: Answer) -> [u8; layout::ANSWER_BYTES]
     }
 }
 
-// Whether a table and the buffer for an answer are long enough.
-pub fn are_lent(table: &[u8], answer: &[u8]) -> bool
-    ensures { result ≡ (is_table table.now && is_answer answer.now) }
+// Whether bytes are enough for a table.
+pub fn is_table(bytes: &[u8]) -> bool
+    ensures { result ≡ is_table bytes.now }
 {
-    (TABLE_BYTES <= table.len()) & (layout::ANSWER_BYTES <= answer.len())
+    TABLE_BYTES <= bytes.len()
 }
 
-// Writes an answer to the front of its buffer.
-pub fn put_answer(answer: Answer, buffer: &mut [u8])
-    requires { is_answer buffer.old ≡ true }
-    ensures { buffer.new ≡ answer_onto answer buffer.old }
+// Writes a reply into two buffers and says that it did; writes nothing if one of them is too short, or if the table that was read (`read`) was.
+pub fn give(read: bool, reply: Reply, table: &mut [u8], answer: &mut [u8]) -> bool
+    ensures { Gives read reply table.old answer.old table.new answer.new result }
 {
-    let said = answer_bytes(answer);
-    let mut k: usize = 0;
-    while k < layout::ANSWER_BYTES {
-        buffer[k] = said[k];
-        k = k + 1;
+    let whole = read & (TABLE_BYTES <= table.len()) & (layout::ANSWER_BYTES <= answer.len());
+    if !whole {
+        return false;
     }
+    let t = reply.table;
+    let a = reply.answer;
+    encode(t, table);
+    let said = answer_bytes(a);
+    put_bytes(answer, 0, &said);
+    true
 }

@@ -1,8 +1,7 @@
 // How many bytes an answer and a session take, and where in them each part stands. A part without a name here is one byte, and stands
 // behind the one before it. The definitions have the same numbers (specs/Layout.antt).
-use inplace::TABLE_BYTES;
 use script::BEGUN_BYTES;
-use wire::{MESSAGE_BYTES, WORD_BYTES};
+use wire::{MESSAGE_BYTES, TABLE_BYTES, WORD_BYTES};
 
 // An answer: its variant, two bytes, a message, a word.
 pub const MESSAGE_AT: usize = 3;

@@ -1,114 +1,96 @@
-// Every call for programs in other languages: it works in place on the bytes of a lent table, or takes and gives those of a session of the
-// script program; numbers go as they are. No call asks anything of its arguments: any bytes that are enough are a table or a session, and
-// a table may be damaged. A call on too few bytes, or with a buffer that is too short, does nothing.
-ghost use Rattle.std.specs.Prelude.{◌≡◌, true, eqb};
-ghost use Rattle.rendezvous.specs.Calls.{offer, step, collect, withdraw};
+// Every call for programs in other languages: a table, or a session of the script program, goes in and comes back as bytes, numbers go
+// as they are. No call asks anything of its arguments: any bytes that are enough are a table or a session, and a table may be damaged.
+// A call on too few bytes, or with a buffer that is too short, does nothing.
+#![tactic(auto)]
+
+ghost use Rattle.std.specs.Prelude.{◌≡◌, true};
+ghost use Rattle.rendezvous.specs.Calls.{create, offer, step, collect, withdraw};
 ghost use Rattle.rendezvous.specs.Movers.{runnable};
-ghost use Rattle.wire.specs.Reading.{offer_of};
-ghost use Rattle.inplace.specs.Reading.{table_of};
-ghost use Rattle.inplace.specs.Calls.{remake, stepped_by};
+ghost use Rattle.wire.specs.Reading.{table_of, offer_of};
 ghost use Rattle.script.specs.Feeding.{start};
 ghost use Rattle.exports.specs.Layout.{AnswerAndSession};
-ghost use Rattle.exports.specs.Answers.{InPlace, Asked};
+ghost use Rattle.exports.specs.Answers.{is_table, Gives};
 ghost use Rattle.exports.specs.Scripts.{Stored, Feeds, Finishes, ByCalls};
 
-use inplace::{collect_in, create_in, offer_in, runnable_in, step_in, withdraw_in};
-use wire::offer_of;
+use rendezvous::ProcessTable;
+use wire::{decode, offer_of};
 
 mod answers;
 mod layout;
 mod scripts;
 mod through;
 
-use answers::{are_lent, put_answer};
+use answers::{give, is_table};
 use scripts::{is_session, put_session, put_text, session_in};
 use through::{limit_through, reading_through};
 
 // The two values of a limit.
-#[derive(Drop)]
+#[derive(Clone, Copy)]
 struct Pair(f32, f32);
 
-// A fresh table of n processes with naps of `nap` own steps, in the place of what stood there.
+// A fresh table of n processes with naps of `nap` own steps.
 #[unsafe(no_mangle)]
-pub extern "C" fn rendezvous_create(table: &mut [u8], n: u8, nap: u8, answer: &mut [u8]) -> bool
-    ensures { InPlace (remake (table_of table.old) n nap) (λ q. true) table.old answer.old table.new answer.new result }
+pub extern "C" fn rendezvous_create(n: u8, nap: u8, out: &mut [u8], answer: &mut [u8]) -> bool
+    ensures { Gives true (create n nap) out.old answer.old out.new answer.new result }
 {
-    if !are_lent(table, answer) {
-        return false;
-    }
-    let said = create_in(table, n, nap);
-    put_answer(said, answer);
-    true
+    give(true, ProcessTable::create(n, nap), out, answer)
 }
 
 // An offer by process p. `guards` holds the bytes of any number of guards.
 #[unsafe(no_mangle)]
 pub extern "C" fn rendezvous_offer(
-    table: &mut [u8],
+    table: &[u8],
     p: u8,
     guards: &[u8],
+    out: &mut [u8],
     answer: &mut [u8],
 ) -> bool
-    ensures { InPlace (offer (table_of table.old) p (offer_of guards.now)) (λ q. eqb q p) table.old answer.old table.new answer.new result }
+    ensures { Gives (is_table table.now) (offer (table_of table.now) p (offer_of guards.now)) out.old answer.old out.new answer.new result }
 {
-    if !are_lent(table, answer) {
-        return false;
-    }
-    let said = offer_in(table, p, offer_of(guards));
-    put_answer(said, answer);
-    true
+    let list = offer_of(guards);
+    give(
+        is_table(table),
+        decode(table).offer_list(p, list),
+        out,
+        answer,
+    )
 }
 
 // A step of process p.
 #[unsafe(no_mangle)]
-pub extern "C" fn rendezvous_step(table: &mut [u8], p: u8, answer: &mut [u8]) -> bool
-    ensures { InPlace (step (table_of table.old) p) (stepped_by (table_of table.old) p) table.old answer.old table.new answer.new result }
+pub extern "C" fn rendezvous_step(table: &[u8], p: u8, out: &mut [u8], answer: &mut [u8]) -> bool
+    ensures { Gives (is_table table.now) (step (table_of table.now) p) out.old answer.old out.new answer.new result }
 {
-    if !are_lent(table, answer) {
-        return false;
-    }
-    let said = step_in(table, p);
-    put_answer(said, answer);
-    true
+    give(is_table(table), decode(table).step(p), out, answer)
 }
 
 // A collection from process p.
 #[unsafe(no_mangle)]
-pub extern "C" fn rendezvous_collect(table: &mut [u8], p: u8, answer: &mut [u8]) -> bool
-    ensures { InPlace (collect (table_of table.old) p) (λ q. eqb q p) table.old answer.old table.new answer.new result }
+pub extern "C" fn rendezvous_collect(table: &[u8], p: u8, out: &mut [u8], answer: &mut [u8]) -> bool
+    ensures { Gives (is_table table.now) (collect (table_of table.now) p) out.old answer.old out.new answer.new result }
 {
-    if !are_lent(table, answer) {
-        return false;
-    }
-    let said = collect_in(table, p);
-    put_answer(said, answer);
-    true
+    give(is_table(table), decode(table).collect(p), out, answer)
 }
 
 // A withdrawal of process p's offer.
 #[unsafe(no_mangle)]
-pub extern "C" fn rendezvous_withdraw(table: &mut [u8], p: u8, answer: &mut [u8]) -> bool
-    ensures { InPlace (withdraw (table_of table.old) p) (λ q. eqb q p) table.old answer.old table.new answer.new result }
+pub extern "C" fn rendezvous_withdraw(
+    table: &[u8],
+    p: u8,
+    out: &mut [u8],
+    answer: &mut [u8],
+) -> bool
+    ensures { Gives (is_table table.now) (withdraw (table_of table.now) p) out.old answer.old out.new answer.new result }
 {
-    if !are_lent(table, answer) {
-        return false;
-    }
-    let said = withdraw_in(table, p);
-    put_answer(said, answer);
-    true
+    give(is_table(table), decode(table).withdraw(p), out, answer)
 }
 
-// The processes that can move. It writes nothing into the table.
+// The processes that can move.
 #[unsafe(no_mangle)]
-pub extern "C" fn rendezvous_runnable(table: &[u8], answer: &mut [u8]) -> bool
-    ensures { Asked (runnable (table_of table.now)) table.now answer.old answer.new result }
+pub extern "C" fn rendezvous_runnable(table: &[u8], out: &mut [u8], answer: &mut [u8]) -> bool
+    ensures { Gives (is_table table.now) (runnable (table_of table.now)) out.old answer.old out.new answer.new result }
 {
-    if !are_lent(table, answer) {
-        return false;
-    }
-    let said = runnable_in(table);
-    put_answer(said, answer);
-    true
+    give(is_table(table), decode(table).runnable(), out, answer)
 }
 
 // A session of the script program before its first byte.

@@ -1,15 +1,13 @@
 // A session of the script program between two pieces of its input, in bytes, and what it prints.
-ghost use Rattle.std.specs.Prelude.{◌≤◌, ◌≡◌, true, cond, ◌++◌, leb, length, take, drop};
+ghost use Rattle.std.specs.Prelude.{◌≡◌, true, cond, ◌++◌, leb, length, take, drop};
 ghost use Rattle.text.specs.Writing.{shown, line_length};
 ghost use Rattle.script.specs.Feeding.{state_held};
-ghost use Rattle.exports.specs.Layout.{session_length};
 ghost use Rattle.exports.specs.Scripts.{state_in, is_session, Stored};
 
 use crate::layout;
-use inplace::TABLE_BYTES;
 use script::{BEGUN_BYTES, Session, least};
 use text::{LINE_BYTES, Text};
-use wire::{byte_at, flag_byte, from, put_bytes};
+use wire::{TABLE_BYTES, byte_at, decode, encode, flag_byte, from, put_bytes};
 
 // Whether bytes are enough for a session.
 pub fn is_session(bytes: &[u8]) -> bool
@@ -20,13 +18,11 @@ pub fn is_session(bytes: &[u8]) -> bool
 
 // The session that bytes are read as.
 pub fn session_in(state: &[u8]) -> Session
-    requires { session_length ≤ length state.now }
     ensures { state_held result ≡ state_in state.now }
 {
     let mut bytes = [0u8; BEGUN_BYTES];
     put_bytes(&mut bytes, 0, from(state, layout::BEGUN_AT));
-    let mut table = [0u8; TABLE_BYTES];
-    put_bytes(&mut table, 0, from(state, layout::TABLE_AT));
+    let table = decode(from(state, layout::TABLE_AT));
     Session {
         made: byte_at(state, 0) != 0,
         length: byte_at(state, 1) as usize,
@@ -39,17 +35,20 @@ pub fn session_in(state: &[u8]) -> Session
 pub fn put_session(session: Session, out: &mut [u8]) -> bool
     ensures { Stored true (state_held session) out.old out.new result }
 {
+    let table = session.table;
+    // `encode` writes to the front of a buffer, so the table's bytes are laid out apart
+    let mut encoded = [0u8; TABLE_BYTES];
+    encode(table, &mut encoded);
     // a begun line never holds more bytes than it has room for, whatever a session says
     let length = least(session.length, BEGUN_BYTES) as u8;
     let head = [flag_byte(session.made), length];
     let bytes = session.bytes;
-    let table = session.table;
     if !is_session(out) {
         return false;
     }
     put_bytes(out, 0, &head);
     put_bytes(out, layout::BEGUN_AT, &bytes);
-    put_bytes(out, layout::TABLE_AT, &table);
+    put_bytes(out, layout::TABLE_AT, &encoded);
     true
 }
 

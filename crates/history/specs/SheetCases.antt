@@ -8,7 +8,6 @@ use Rattle.rendezvous.specs.Run.{Call, Offer, Step, Collect, Withdraw, table_aft
 use Rattle.history.specs.Types.{ℕ, ◌≡◌, Bool, true, false, List, [], ◌∷◌, ◌++◌, some, none, replicate, Message, Place, ProcessTable}
 use Rattle.history.specs.Cases.{Case, Hold, collects, steps, receive, send, reading, at, session_calls}
 use Rattle.history.specs.Further.{by_hand, table}
-use Rattle.history.specs.Withdrawals.{placed}
 
 -- a table with these totals
 abbrev totalled : ℕ → ℕ → ProcessTable → ProcessTable
@@ -35,6 +34,10 @@ sums =
     ∷ damaged (idle 4294967295 9223372036854775809 4294967293) ∷ damaged (idle 4294967295 18446744073709551615 0)
     ∷ damaged (idle 4294967295 0 18446744073709551615) ∷ damaged (idle 4294967295 1 18446744073709551615) ∷ damaged (idle 4294967295 18446744073709551615 18446744073709551615)
     ∷ []
+
+-- process 0 at a place, with wake count 0 where `accepting` is true; process 1 has a guard posted, for the kept index at C
+abbrev placed : ℕ → Place → Bool → ProcessTable
+placed next place accepting = table 2 next (by_hand 0 place Signal.Absent accepting (receive 1 ∷ []) [] ∷ by_hand 1 Place.Idle Signal.Absent false [] (receive 0 ∷ []) ∷ [])
 
 -- an offer counts as open there, so that it needs a ticket, or it does not
 abbrev open_at : Bool → Place → List Case

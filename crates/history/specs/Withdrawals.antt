@@ -16,15 +16,15 @@ use Rattle.history.specs.Further.{by_hand, table}
 abbrev pub withdraws : ℕ → Command
 withdraws p = Do (Withdraw p)
 
--- with this next ticket, process 0 at a place, with wake count 0 where `accepting` is true; process 1 has a guard posted, for the kept index at C
-abbrev pub placed : ℕ → Place → Bool → ProcessTable
-placed next place accepting = table 2 next (by_hand 0 place Signal.Absent accepting (receive 1 ∷ []) [] ∷ by_hand 1 Place.Idle Signal.Absent false [] (receive 0 ∷ []) ∷ [])
+-- process 0 at a place, with wake count 0 where `accepting` is true; process 1 has a guard posted, for the kept index at C
+abbrev placed : Place → Bool → ProcessTable
+placed place accepting = table 2 2 (by_hand 0 place Signal.Absent accepting (receive 1 ∷ []) [] ∷ by_hand 1 Place.Idle Signal.Absent false [] (receive 0 ∷ []) ∷ [])
 
 -- what a withdrawal says there with wake count 0, and with 1
 abbrev says : Place → Said → Said → List Case
 says place zero one =
-    record { start = placed 2 place true; commands = withdraws 0 ∷ []; says = zero ∷ [] }
-    ∷ record { start = placed 2 place false; commands = withdraws 0 ∷ []; says = one ∷ [] } ∷ []
+    record { start = placed place true; commands = withdraws 0 ∷ []; says = zero ∷ [] }
+    ∷ record { start = placed place false; commands = withdraws 0 ∷ []; says = one ∷ [] } ∷ []
 
 unfoldable pub everywhere : List Case
 everywhere =
@@ -51,7 +51,7 @@ unfoldable pub stories : List Case
 stories =
     -- "After 7 and 2, a party at I or M is turned away by 14.": 2 before 14, and 7 before both
     case (makes 2 ∷ withdraws 0 ∷ withdraws 2 ∷ []) (made ∷ refusal 14 ∷ refusal 2 ∷ [])
-    ∷ record { start = placed 2 (Place.Scanning 1) false; commands = withdraws 0 ∷ withdraws 1 ∷ withdraws 9 ∷ []; says = replicate 3 (refusal 7) }
+    ∷ record { start = placed (Place.Scanning 1) false; commands = withdraws 0 ∷ withdraws 1 ∷ withdraws 9 ∷ []; says = replicate 3 (refusal 7) }
     -- The slot closes before the commit: the partner passes on.
     ∷ case (tried ++ withdraws 0 ∷ steps 1 ∷ withdraws 0 ∷ []) (tried_says ++ withdrawn ∷ at "P" none ∷ refusal 14 ∷ [])
     -- It closes after the commit: too late for both, and at M they are turned away.

@@ -1,4 +1,6 @@
 // Demand 3: what every list of calls leaves behind, stated and proved over the definitions of the calls.
+#![tactic(auto)]
+
 ghost use Rattle.history.specs.Demand3.{Demand3};
 ghost use Rattle.history.specs.StaysWellFormed.{StaysWellFormed};
 ghost use Rattle.history.specs.NothingLost.{NothingLost};

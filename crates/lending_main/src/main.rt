@@ -1,4 +1,6 @@
 // Offers of lists that this program lends from its own memory: of no guards, of one, of eight and of nine.
+#![tactic(auto)]
+
 ghost use Rattle.std.specs.Prelude.{◌≤◌, ◌≡◌, take};
 ghost use Rattle.rendezvous.specs.Calls.{offer};
 

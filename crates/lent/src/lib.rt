@@ -1,4 +1,6 @@
 // A list of guards lent as a slice, copied into a list by value: the one place where a lent slice of guards is read.
+#![tactic(auto)]
+
 ghost use Rattle.std.specs.Prelude.{◌≡◌, [], ◌∷◌, get_or};
 ghost use Rattle.alternative.specs.Guards.{lent};
 

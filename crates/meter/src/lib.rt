@@ -1,5 +1,7 @@
 // A loop that ./bench times. It makes calls on one local table, each call at one place, as a program does that reads what to
 // call, and gives back a sum of what they answer, so that none can be left out. It promises nothing but to be safe and to end.
+#![tactic(auto)]
+
 mod answers;
 mod plans;
 mod tables;

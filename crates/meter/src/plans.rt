@@ -1,5 +1,5 @@
 // What is called, in turn: plan 0 is whole meetings of processes 0 and 1, the others one call over and over.
-#[derive(Drop)]
+#[derive(Clone, Copy)]
 pub enum Planned {
     Offer(u8),
     Step(u8),

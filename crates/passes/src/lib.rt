@@ -4,6 +4,8 @@
 // No contract can say what `read` and `write` of the operating system do. So what a program makes of their answers is decided by
 // functions of its own, in `answers`, and what it hands over is asked by the functions that write: each has a `requires` for the
 // bytes, which its caller is proved to meet.
+#![tactic(auto)]
+
 use script::Session;
 
 mod answers;
@@ -17,7 +19,7 @@ pub use telling::tell;
 pub use writing::write_text;
 
 // How a program stands: it goes on, the input has ended, a read or a write has failed, or there were too many reads.
-#[derive(Drop)]
+#[derive(Clone, Copy)]
 pub enum Status {
     Going,
     Ended,

@@ -1,4 +1,6 @@
 // One process's record, and what is told and done on one or two records: the fifteen rules, and whether a record fits into a table.
+#![tactic(auto)]
+
 ghost use Rattle.process.specs.Places.{PlaceTable};
 ghost use Rattle.process.specs.Naps.{OldRule2};
 
@@ -16,11 +18,11 @@ pub use record::{fresh_process, guard_at};
 pub use rules::rule;
 
 // Document 01's ticket: the number of one offer. It is no process number, and priority goes by it alone.
-#[derive(Drop)]
+#[derive(Clone, Copy)]
 pub struct TransactionId(pub u32);
 
 // Document 01's signal: absent, or a guard index with a message.
-#[derive(Drop)]
+#[derive(Clone, Copy)]
 pub enum Signal {
     Absent,
     Present(u8, Message),
@@ -29,7 +31,7 @@ pub enum Signal {
 // Document 01's place, a word for each letter: I E A T C P O H S W M. A guard's index goes with A, T and C; with C also the kept
 // index of the partner's guard; with S the own steps made there (document 02, request 3); with M the outcome, a guard index and a
 // message.
-#[derive(Drop)]
+#[derive(Clone, Copy)]
 pub enum Place {
     Idle,
     Entering,
@@ -45,7 +47,7 @@ pub enum Place {
 }
 
 // Document 01's word: what others read of a place.
-#[derive(Drop)]
+#[derive(Clone, Copy)]
 pub enum State {
     Running,
     Alt,
@@ -55,7 +57,7 @@ pub enum State {
 
 // Document 01's party. `guards` with `count` is its own list, `altlist` with `altcount` the posted one; `accepting` is true where
 // the wake count is 0.
-#[derive(Drop)]
+#[derive(Clone, Copy)]
 pub struct Process {
     pub place: Place,
     pub signal: Signal,
@@ -69,7 +71,7 @@ pub struct Process {
 
 // What a rule leaves: whether anything changed, and whether the partner's record did; the own record, and the partner's wake count
 // and signal.
-#[derive(Drop)]
+#[derive(Clone, Copy)]
 pub struct Change {
     pub moved: bool,
     pub told: bool,

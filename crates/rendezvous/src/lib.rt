@@ -1,4 +1,6 @@
 // The process table: the calls on it, and what they answer.
+#![tactic(auto)]
+
 ghost use Rattle.rendezvous.specs.Forms.{FormsAreWellFormed};
 ghost use Rattle.rendezvous.specs.Acts.{AllActsAreCalls};
 ghost use Rattle.rendezvous.specs.Movers.{MoversChange};
@@ -14,6 +16,7 @@ mod create;
 mod lending;
 mod numbers;
 mod offer;
+mod open_count;
 mod refusals;
 mod runnable;
 mod step;
@@ -22,8 +25,7 @@ mod withdraw;
 
 pub use acts::{alone, collect_act, offer_act, step_act, withdraw_act};
 pub use create::fresh_head;
-pub use refusals::{create_verdict, list_verdict};
-pub use well_formed::{form_end, form_more, form_start, totals_fit};
+pub use well_formed::{form_end, form_more, form_start};
 
 // The most processes that a table holds, and the transaction number that is never given out.
 pub const MOST_PROCESSES: u8 = 32;
@@ -32,7 +34,7 @@ pub const LAST_TRANSACTION: u32 = 4294967295;
 
 // What a table holds beside its records: the number of processes, how many own steps a nap takes, the next ticket, and the totals of the
 // day sheet, how many rendezvous were committed and how many offers withdrawn.
-#[derive(Drop)]
+#[derive(Clone, Copy)]
 pub struct Head {
     pub n: u8,
     pub nap: u8,
@@ -53,14 +55,14 @@ pub type ProcessSet = u32;
 
 // What is known of a table's form where some of its records are tested: whether its head and these fit, and how many of the tickets
 // given out their open offers have left.
-#[derive(Drop)]
+#[derive(Clone, Copy)]
 pub struct Form {
     pub fits: bool,
     pub left: u32,
 }
 
 // Why a call is turned away. The definition `refusal_number` gives the documents' number of each.
-#[derive(Drop)]
+#[derive(Clone, Copy)]
 pub enum Refusal {
     ProcessCount,
     NotWellFormed,
@@ -77,7 +79,7 @@ pub enum Refusal {
 }
 
 // Whether a call is turned away.
-#[derive(Drop)]
+#[derive(Clone, Copy)]
 pub enum Verdict {
     Accepted,
     Refused(Refusal),
@@ -86,7 +88,7 @@ pub enum Verdict {
 // What a call says: a table was made; the ticket of an offer; the new place of a step, or that nothing changed; the guard index,
 // partner and message of a collection; that an offer is withdrawn, or that a commit came first; the set of processes that can move;
 // or a refusal.
-#[derive(Drop)]
+#[derive(Clone, Copy)]
 pub enum Answer {
     Made,
     Offered(TransactionId),
@@ -101,7 +103,7 @@ pub enum Answer {
 
 // What a call of one process does: its answer, the table's head, the record of the process, and, where the process tells its
 // partner something, the partner's wake count and signal.
-#[derive(Drop)]
+#[derive(Clone, Copy)]
 pub struct Act {
     pub answer: Answer,
     pub head: Head,

@@ -2,7 +2,6 @@
 use Rattle.std.specs.Prelude.{ℕ, ◌≡◌, Bool, cond, take, eqb}
 use mathlib.Core.List.{List, [], ◌∷◌, ◌++◌, flatten}
 use Rattle.std.proofs.Math.Option.{Option, some, none}
-use Rattle.inplace.specs.Reading.{table_of}
 use Rattle.script.specs.Types.{ProcessTable, Session}
 use Rattle.script.specs.Printing.{end_of_line}
 use Rattle.script.specs.Lines.{Ended, lines_from, begun_length, line_command}
@@ -16,12 +15,12 @@ pub record SessionState : Type 0 where
 abbrev pub start : SessionState
 start = record { begun = []; table = none }
 
--- .. as the code holds them: the table in its bytes
+-- .. as the code holds them
 abbrev pub table_if : Bool → ProcessTable → Option ProcessTable
 table_if made table = cond made (some table) none
 
 abbrev pub state_held : Session → SessionState
-state_held s = record { begun = take s.length s.bytes; table = table_if s.made (table_of s.table) }
+state_held s = record { begun = take s.length s.bytes; table = table_if s.made s.table }
 
 -- What a piece prints, and the state after it.
 pub record After : Type 0 where

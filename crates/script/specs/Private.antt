@@ -5,14 +5,18 @@ use Rattle.text.specs.Writing.{decimal_text, line_length}
 use Rattle.command.specs.declared.Verb.{Verb}
 use Rattle.command.specs.declared.Parsed.{Parsed}
 use Rattle.command.specs.InCode.{plain}
-use Rattle.rendezvous.specs.Calls.{offer_list, step, collect, withdraw}
-use Rattle.rendezvous.specs.Movers.{runnable}
+use Rattle.rendezvous.specs.declared.Act.{Act}
+use Rattle.rendezvous.specs.declared.Form.{Form}
+use Rattle.rendezvous.specs.declared.Head.{Head}
+use Rattle.rendezvous.specs.Types.{Process}
+use Rattle.rendezvous.specs.Calls.{create}
+use Rattle.rendezvous.specs.Acts.{alone, offer_act, step_act, collect_act, withdraw_act}
 use Rattle.rendezvous.specs.Numbers.{said}
-use Rattle.inplace.specs.Calls.{remake}
 use Rattle.script.specs.Types.{GuardList, ProcessTable, Answer, Reply}
 use Rattle.script.specs.Printing.{field, refusal_text, answer_text, ended}
+use Rattle.script.specs.Session.{is_refused}
 
--- a command that makes a table
+-- a command that makes a table, and one that asks for the movers
 abbrev pub is_new : Verb → Bool
 is_new Verb.New = true
 is_new Verb.Malformed = false
@@ -22,19 +26,32 @@ is_new Verb.Collect = false
 is_new Verb.Withdraw = false
 is_new Verb.Movers = false
 
+abbrev pub is_movers : Verb → Bool
+is_movers Verb.Movers = true
+is_movers Verb.New = false
+is_movers Verb.Malformed = false
+is_movers Verb.Offer = false
+is_movers Verb.Step = false
+is_movers Verb.Collect = false
+is_movers Verb.Withdraw = false
+
 -- a command as it counts where a table was made or not: without one, all but `n` are malformed
 abbrev pub heard : Bool → Parsed → Parsed
 heard made command = cond (made || is_new command.verb) command (plain Verb.Malformed 0)
 
--- the reply to a command, where a table t stood; a malformed one leaves it
-unfoldable pub reply_by : ProcessTable → Verb → ℕ → ℕ → GuardList → Reply
-reply_by t Verb.Malformed n d list = record { answer = Answer.Unchanged; table = t }
-reply_by t Verb.New n d list = remake t n d
-reply_by t Verb.Offer n d list = offer_list t n list
-reply_by t Verb.Step n d list = step t n
-reply_by t Verb.Collect n d list = collect t n
-reply_by t Verb.Withdraw n d list = withdraw t n
-reply_by t Verb.Movers n d list = runnable t
+-- the act of a call of one process, from what was read; a command with another verb does nothing
+unfoldable pub line_act : Verb → ℕ → GuardList → Form → Head → Process → ℕ → Process → Act
+line_act Verb.Offer p list form h x q y = offer_act form h p x list
+line_act Verb.Step p list form h x q y = step_act form h p x q y
+line_act Verb.Collect p list form h x q y = collect_act form h p x
+line_act Verb.Withdraw p list form h x q y = withdraw_act form h p x
+line_act Verb.Malformed p list form h x q y = alone Answer.Unchanged h x
+line_act Verb.New p list form h x q y = alone Answer.Unchanged h x
+line_act Verb.Movers p list form h x q y = alone Answer.Unchanged h x
+
+-- the reply to `n`, with the table that goes on
+unfoldable pub new_reply : ProcessTable → ℕ → ℕ → Reply
+new_reply t n d = let reply = create n d in record { answer = reply.answer; table = cond (is_refused reply.answer) t reply.table }
 
 -- a text put into an output at index `at`, and the index after it; where there is no room for a line, nothing is
 abbrev pub put_at : ℕ → List ℕ → List ℕ → List ℕ

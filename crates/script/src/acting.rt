@@ -1,31 +1,30 @@
-// What a line's command does to the table, which stands in its bytes.
-ghost use Rattle.std.specs.Prelude.{◌≤◌, ◌≡◌, length};
-ghost use Rattle.inplace.specs.Layout.{table_length};
-ghost use Rattle.inplace.specs.Reading.{table_of};
+// What a line's command does to the table.
+ghost use Rattle.std.specs.Prelude.{◌≡◌};
 ghost use Rattle.script.specs.Session.{is_refused};
-ghost use Rattle.script.specs.Private.{reply_by};
+ghost use Rattle.script.specs.Private.{line_act, new_reply};
 
 use command::{Parsed, Verb};
-use inplace::{collect_in, create_in, offer_in, runnable_in, step_in, withdraw_in};
-use rendezvous::Answer;
+use process::Process;
+use rendezvous::{
+    Act, Answer, Form, Head, ProcessTable, Reply, alone, collect_act, offer_act, step_act,
+    withdraw_act,
+};
 
-// Carries out a command. A malformed one does nothing, and has no answer of its own.
-pub fn acted(table: &mut [u8], command: Parsed) -> Answer
-    requires { table_length ≤ length table.old }
-    ensures answer { result ≡ (reply_by (table_of table.old) command.verb command.number command.nap command.list).answer }
-    ensures table { table_of table.new ≡ (reply_by (table_of table.old) command.verb command.number command.nap command.list).table }
+// A call of one process, from what was read of the table. A command with another verb does nothing here.
+pub fn line_act(command: Parsed, form: Form, head: Head, x: Process, q: u8, y: Process) -> Act
+    ensures { result ≡ line_act command.verb command.number command.list form head x q y }
 {
     let verb = command.verb;
     let p = command.number;
     let list = command.list;
     match verb {
-        Verb::Malformed => Answer::Unchanged,
-        Verb::New => create_in(table, p, command.nap),
-        Verb::Offer => offer_in(table, p, list),
-        Verb::Step => step_in(table, p),
-        Verb::Collect => collect_in(table, p),
-        Verb::Withdraw => withdraw_in(table, p),
-        Verb::Movers => runnable_in(table),
+        Verb::Offer => offer_act(form, head, p, x, list),
+        Verb::Step => step_act(form, head, p, x, q, y),
+        Verb::Collect => collect_act(form, head, p, x),
+        Verb::Withdraw => withdraw_act(form, head, p, x),
+        Verb::Malformed => alone(Answer::Unchanged, head, x),
+        Verb::New => alone(Answer::Unchanged, head, x),
+        Verb::Movers => alone(Answer::Unchanged, head, x),
     }
 }
 
@@ -44,4 +43,16 @@ pub fn is_refused(answer: Answer) -> bool
         Answer::TooLate => false,
         Answer::Runnable(_) => false,
     }
+}
+
+// The reply to `n`: a refused one keeps the old table.
+pub fn created(table: ProcessTable, n: u8, nap: u8) -> Reply
+    ensures { result ≡ new_reply table n nap }
+{
+    let mut reply = ProcessTable::create(n, nap);
+    let answer = reply.answer;
+    if is_refused(answer) {
+        reply.table = table;
+    }
+    reply
 }

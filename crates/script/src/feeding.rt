@@ -1,22 +1,25 @@
-// The session, piece by piece. The table stays in its bytes, where each line's call works on it.
+// The session, piece by piece. A function that takes a table copies it, and that would be most of a line's work. So the loop keeps the
+// table in its place: it tests the table, reads the records that a call looks at, and writes what the call does. Only `n` and `m` hand
+// the table on.
 ghost use Rattle.std.specs.Prelude.{◌/◌, min, ◌≡◌, ◌++◌, length, take, drop};
 ghost use Rattle.text.specs.Writing.{shown, line_length};
 ghost use Rattle.script.specs.Feeding.{start, state_held, fed, finished};
 
-use crate::acting::{acted, is_refused};
-use crate::lines::{BEGUN_BYTES, heard, is_new, line_command};
+use crate::acting::{created, is_refused, line_act};
+use crate::lines::{BEGUN_BYTES, heard, is_movers, is_new, line_command};
 use crate::output::{least, put};
 use crate::printing::{malformed_line, printed_line};
 use crate::{Fed, Session};
-use inplace::TABLE_BYTES;
+use rendezvous::{MOST_PROCESSES, ProcessTable, form_more, form_start};
 use text::{LINE_BYTES, Text};
 
-// A session before its first byte. Zeros stand in for the table that is not made yet.
+// A session before its first byte. The table of no process stands in for the one that is not made yet.
 pub fn start() -> Session
     ensures { state_held result ≡ start }
 {
     let bytes = [0u8; BEGUN_BYTES];
-    let table = [0u8; TABLE_BYTES];
+    let reply = ProcessTable::create(0, 0);
+    let table = reply.table;
     Session {
         made: false,
         length: 0,
@@ -46,8 +49,45 @@ pub fn feed(session: Session, piece: &[u8], out: &mut [u8]) -> Fed
         i = i + 1;
         if b == b'\n' {
             let command = heard(made, line_command(&bytes[..held]));
-            let answer = acted(&mut table, command);
-            made = made | (is_new(command) & !is_refused(answer));
+            // what a call reads: what the form test finds, and the records of its process and of the partner
+            let head = table.head;
+            let mut form = form_start(head);
+            let mut k: u8 = 0;
+            while k < head.n {
+                let at = (k % MOST_PROCESSES) as usize;
+                let z = table.processes[at];
+                let there = (z.committed_to() % MOST_PROCESSES) as usize;
+                let posted = table.processes[there].altcount;
+                form = form_more(form, head, k, z, posted);
+                k = k + 1;
+            }
+            let at = (command.number % MOST_PROCESSES) as usize;
+            let x = table.processes[at];
+            let q = x.partner();
+            let there = (q % MOST_PROCESSES) as usize;
+            let y = table.processes[there];
+            let act = line_act(command, form, head, x, q, y);
+            // what it does
+            if act.told {
+                // Read anew: y would be held, and so copied, across the rule.
+                let partner = table.processes[there];
+                let signal = act.signal;
+                table.processes[there] = partner.told(act.accepting, signal);
+            }
+            let own = act.own;
+            let after = act.head;
+            let mut answer = act.answer;
+            table.processes[at] = own;
+            table.head = after;
+            if is_new(command) {
+                let reply = created(table, command.number, command.nap);
+                answer = reply.answer;
+                table = reply.table;
+                made = made | !is_refused(answer);
+            } else if is_movers(command) {
+                let reply = table.runnable();
+                answer = reply.answer;
+            }
             filled = put(out, filled, printed_line(command, answer));
             held = 0;
         } else if held < BEGUN_BYTES {

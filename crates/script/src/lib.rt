@@ -1,9 +1,11 @@
 // The script program of documents 01 and 02, from all input bytes to all output bytes: its lines, commands, calls and printed lines.
+#![tactic(auto)]
+
 ghost use Rattle.script.specs.Examples.{MarkedSession, CarriedMessages, MalformedLines, ClosedSlots, TwoSensors, Naps, AlarmFirst};
 ghost use Rattle.script.specs.Feeding.{Pieces};
 ghost use Rattle.script.specs.WithoutRanks.{WithoutRanks};
 
-use inplace::TABLE_BYTES;
+use rendezvous::ProcessTable;
 
 mod acting;
 mod feeding;
@@ -15,14 +17,14 @@ pub use feeding::{feed, finish, start};
 pub use lines::BEGUN_BYTES;
 pub use output::least;
 
-// A session between two pieces of its input. `table` holds a table's bytes, and counts where `made` says so. The first `length` bytes of
-// `bytes` are the begun line; one byte more than a line may have tells an overlong one.
+// A session between two pieces of its input. `table` counts where `made` says so. The first `length` bytes of `bytes` are the begun
+// line; one byte more than a line may have tells an overlong one.
 #[derive(Drop)]
 pub struct Session {
     pub made: bool,
     pub length: usize,
     pub bytes: [u8; BEGUN_BYTES],
-    pub table: [u8; TABLE_BYTES],
+    pub table: ProcessTable,
 }
 
 // How many bytes of a piece were taken, how many bytes of the lent output were filled, and the session after them.

@@ -2,7 +2,7 @@
 ghost use Rattle.std.specs.Prelude.{◌≡◌};
 ghost use Rattle.command.specs.InCode.{as_parsed};
 ghost use Rattle.script.specs.Lines.{Line, line_command};
-ghost use Rattle.script.specs.Private.{is_new, heard};
+ghost use Rattle.script.specs.Private.{is_new, is_movers, heard};
 
 use command::{Parsed, Verb, parse, plain_command};
 
@@ -35,6 +35,22 @@ pub fn is_new(command: Parsed) -> bool
         Verb::Collect => false,
         Verb::Withdraw => false,
         Verb::Movers => false,
+    }
+}
+
+// Whether a command asks for the movers.
+pub fn is_movers(command: Parsed) -> bool
+    ensures { result ≡ is_movers command.verb }
+{
+    let verb = command.verb;
+    match verb {
+        Verb::Movers => true,
+        Verb::New => false,
+        Verb::Malformed => false,
+        Verb::Offer => false,
+        Verb::Step => false,
+        Verb::Collect => false,
+        Verb::Withdraw => false,
     }
 }
 

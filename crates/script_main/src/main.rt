@@ -1,5 +1,7 @@
 // The script program: it reads standard input to its end, feeds what it reads to a session, and writes what the session prints. What its
 // pieces print, `passes` writes; what the end prints is written here, by a function with a `requires` for it.
+#![tactic(auto)]
+
 ghost use Rattle.std.specs.Prelude.{◌≡◌, true};
 ghost use Rattle.text.specs.Writing.{shown};
 ghost use Rattle.script.specs.Feeding.{start, state_held, finished};

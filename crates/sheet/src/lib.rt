@@ -1,21 +1,15 @@
 // The day sheet of document 02's request 6: one line of totals, for the table that a session ends with.
-ghost use Rattle.std.specs.Prelude.{◌≤◌, ◌≡◌, length};
-ghost use Rattle.std.proofs.Math.Option.{some};
+#![tactic(auto)]
+
+ghost use Rattle.std.specs.Prelude.{◌≡◌};
 ghost use Rattle.text.specs.Writing.{shown};
-ghost use Rattle.inplace.specs.Layout.{table_length};
-ghost use Rattle.inplace.specs.Reading.{table_of};
 ghost use Rattle.script.specs.Feeding.{state_held};
 ghost use Rattle.sheet.specs.Sheet.{totals_text, sheet_text, SheetOfPieces};
 ghost use Rattle.sheet.specs.AddsUp.{SheetAddsUp};
 ghost use Rattle.sheet.specs.Examples.{Examples};
 
-use inplace::{MEETINGS_AT, NEXT_AT, WITHDRAWN_AT, long_at, word_at};
 use script::Session;
 use text::Text;
-
-mod open;
-
-use open::open_in;
 
 // The line of four totals. It has at most 10, 20, 20 and 3 digits, three spaces and the end of line: less than a text holds.
 fn totals_text(offers: u32, meetings: u64, withdrawn: u64, pending: u8) -> Text
@@ -27,17 +21,6 @@ fn totals_text(offers: u32, meetings: u64, withdrawn: u64, pending: u8) -> Text
     given_up.byte(b' ').decimal(pending as u64).byte(b'\n')
 }
 
-// The sheet of a table, by its bytes.
-fn table_text(t: &[u8]) -> Text
-    requires { table_length ≤ length t.now }
-    ensures { shown result ≡ sheet_text (some (table_of t.now)) }
-{
-    let offers = word_at(t, NEXT_AT);
-    let meetings = long_at(t, MEETINGS_AT);
-    let withdrawn = long_at(t, WITHDRAWN_AT);
-    totals_text(offers, meetings, withdrawn, open_in(t))
-}
-
 // The sheet of the table that a session holds; before one was made all totals are 0.
 pub fn sheet(session: Session) -> Text
     ensures { shown result ≡ sheet_text (state_held session).table }
@@ -46,7 +29,9 @@ pub fn sheet(session: Session) -> Text
         return totals_text(0, 0, 0, 0);
     }
     let table = session.table;
-    table_text(&table)
+    let head = table.head;
+    let next = head.next;
+    totals_text(next.0, head.meetings, head.withdrawn, table.open_count())
 }
 
 // Carries the claim that the way in which the input is cut into pieces does not matter, so that the verdict has a line for it.

@@ -1,5 +1,7 @@
 // The sheet program: it reads standard input to its end, feeds what it reads to a session, and writes the day sheet of the table that the
 // session ends with. What the lines of the script print is thrown away; the sheet is written here, by a function with a `requires` for it.
+#![tactic(auto)]
+
 ghost use Rattle.std.specs.Prelude.{◌≡◌, true, false};
 ghost use Rattle.text.specs.Writing.{shown};
 ghost use Rattle.script.specs.Feeding.{start, state_held};

@@ -1,4 +1,6 @@
 // Numbers as bytes: what a script line spells, and a short text to print.
+#![tactic(auto)]
+
 ghost use Rattle.text.specs.Claims.{EdgeCases, ReadBack, ByteValues, ValueDigits};
 
 mod reading;
@@ -8,19 +10,19 @@ mod writing;
 pub use reading::{is_digit, read_byte_number, read_hex_word, read_whole};
 
 // What bytes spell, or malformed: a number of 32 bits, one from 0 to 255, a signed one of 32 bits.
-#[derive(Drop)]
+#[derive(Clone, Copy)]
 pub enum Number {
     Malformed,
     Value(u32),
 }
 
-#[derive(Drop)]
+#[derive(Clone, Copy)]
 pub enum ByteNumber {
     Malformed,
     Value(u8),
 }
 
-#[derive(Drop)]
+#[derive(Clone, Copy)]
 pub enum Whole {
     Malformed,
     Value(i32),
@@ -30,7 +32,7 @@ pub enum Whole {
 pub const LINE_BYTES: usize = 64;
 
 // The first `length` bytes of `bytes`: an output line while it is put together. What goes beyond `LINE_BYTES` is dropped.
-#[derive(Drop)]
+#[derive(Clone, Copy)]
 pub struct Text {
     pub length: usize,
     pub bytes: [u8; LINE_BYTES],

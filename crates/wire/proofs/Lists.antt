@@ -1,13 +1,15 @@
 -- Bytes written one part after another, and values that stand one after another.
 use Prim.Native.Nat.{ℕ, zero, suc, ◌+◌, ◌*◌, ◌≤◌, ◌<◌}
-use mathlib.Core.Path.{◌≡◌, refl, ap, ◌∙◌}
-use mathlib.Core.List.{List, [], ◌∷◌, ◌++◌, append-nil}
+use mathlib.Core.Path.{◌≡◌, refl, sym, ap, ◌∙◌}
+use mathlib.Core.List.{List, [], ◌∷◌, ◌++◌, append_assoc, append-nil}
 use native.Mathlib.Nat.{le_refl, add_comm, mul-zero, mul-suc}
 use native.Mathlib.Numerals.{add-one}
 use native.Mathlib.Omega.{arith}
-use lib.ListN.{length, drop, get_or, set}
-use lib.Seq.{sets, sets-eq, set_out, drop-cons, drop-drop, drop-length}
+use lib.ListN.{length, take, drop, get_or, set, length-append, length-set}
+use lib.Seq.{sets, sets-eq, length-sets, set_out, drop-cons, drop-drop, drop-length, drop_at, take_all, take-suc, take-suc-set}
 use Rattle.wire.specs.Reading.{each_of}
+use Rattle.wire.specs.Writing.{each_bytes}
+use Rattle.wire.specs.Claims.{Each}
 
 -- what is written past the end is dropped
 pub sets-past : (l : List ℕ) (k : ℕ) (xs : List ℕ) → length l ≤ k → sets l k xs ≡ l
@@ -49,7 +51,66 @@ module _ {A : Type 0} (read : List ℕ → A) (size : ℕ) where
   each_at (suc n) (suc i) bytes d h = rw (mul-suc, add_comm (size * i) size, ← (drop-drop (size * i) size bytes)) (each_at n i (drop size bytes) d (omega arith))
 
   -- one value more
-  pub each_more : (k : ℕ) (bytes : List ℕ) → each_of read size (suc k) bytes ≡ each_of read size k bytes ++ (read (drop (size * k) bytes) ∷ [])
+  each_more : (k : ℕ) (bytes : List ℕ) → each_of read size (suc k) bytes ≡ each_of read size k bytes ++ (read (drop (size * k) bytes) ∷ [])
   unfolding each_of
   each_more zero bytes = rw (mul-zero)
   each_more (suc k) bytes = ap (λ (r : List A). read bytes ∷ r) (each_more k (drop size bytes) ∙ rw (drop-drop, mul-suc, add_comm (size * k) size))
+
+  -- the first k of n values of a list are read
+  abbrev pub ReadTo : ℕ → List ℕ → ℕ → List A → Type 0
+  ReadTo n bytes k l = (k ≤ n) × (length l ≡ n) × (take k l ≡ each_of read size k bytes)
+
+  pub read_more : (n : ℕ) (bytes : List ℕ) (k : ℕ) (l : List A) → k < n → ReadTo n bytes k l → ReadTo n bytes (k + 1) (set l k (read (drop (size * k) bytes)))
+  read_more n bytes k l h r =
+      (omega arith, simp length-set r.1, rw (add-one, take-suc-set l k (read (drop (size * k) bytes)) (omega arith), r.2) (sym (each_more k bytes)))
+
+  pub read-end : (n : ℕ) (bytes : List ℕ) (k : ℕ) (l : List A) → n ≤ k → ReadTo n bytes k l → l ≡ each_of read size n bytes
+  read-end n bytes k l h r = let e : k ≡ n = omega arith in sym (take_all n l (omega arith)) ∙ (rw e at r.2)
+
+-- values that are written
+module _ {A : Type 0} (write : A → List ℕ) where
+  each_snoc : (xs : List A) (x : A) → each_bytes write (xs ++ (x ∷ [])) ≡ each_bytes write xs ++ write x
+  unfolding each_bytes
+  each_snoc [] x = append-nil (write x)
+  each_snoc (y ∷ xs) x = rw (each_snoc xs x) (sym (append_assoc (write y) (each_bytes write xs) (write x)))
+
+  -- the first k of n values, `size` bytes each, stand from byte `at` on in what was l₀
+  abbrev pub WrittenTo : ℕ → ℕ → List A → ℕ → List ℕ → ℕ → List ℕ → Type 0
+  WrittenTo size n xs at l₀ k l =
+      let done = each_bytes write (take k xs) in
+      (k ≤ n) × (length l ≡ length l₀) × (length done ≡ size * k) × (l ≡ sets l₀ at done)
+
+  pub written-more : (size n : ℕ) (xs : List A) (d : A) (at : ℕ) (l₀ : List ℕ) (k : ℕ) (l : List ℕ) (j : ℕ) → length xs ≡ n → k < n → length (write (get_or xs k d)) ≡ size → at + size * k ≡ j
+      → WrittenTo size n xs at l₀ k l → WrittenTo size n xs at l₀ (k + 1) (sets l j (write (get_or xs k d)))
+  written-more size n xs d at l₀ k l j m h s e w =
+      let done = each_bytes write (take k xs) in
+      let next = write (get_or xs k d) in
+      let grown : each_bytes write (take (k + 1) xs) ≡ done ++ next = rw (add-one, take-suc xs k d (omega arith)) (each_snoc (take k xs) (get_or xs k d)) in (
+        omega arith,
+        length-sets l j next ∙ w.1,
+        rw (grown, length-append done next, w.2, s, add-one, mul-suc),
+        rw (grown, w.3) (sets-join l₀ at done next j (omega arith)),
+      )
+
+  pub written-end : (size n : ℕ) (xs : List A) (at : ℕ) (l₀ : List ℕ) (k : ℕ) (l : List ℕ) → length xs ≡ n → n ≤ k → WrittenTo size n xs at l₀ k l
+      → (length (each_bytes write xs) ≡ size * n) × (l ≡ sets l₀ at (each_bytes write xs))
+  written-end size n xs at l₀ k l m h w =
+      let e : k ≡ n = omega arith in
+      let whole : take k xs ≡ xs = take_all k xs (omega arith) in
+      (rw (whole, e) at w.2, rw whole at w.3)
+
+-- values of equal length
+module _ {A : Type 0} (P : A → Type 0) (write : A → List ℕ) (size : ℕ) (sized : (x : A) → P x → length (write x) ≡ size) where
+  pub each-length : (xs : List A) → Each P xs → length (each_bytes write xs) ≡ size * length xs
+  unfolding each_bytes
+  each-length [] h = sym (mul-zero size)
+  each-length (x ∷ xs) h = rw (length-append, sized x h.0, each-length xs h.1, mul-suc) (add_comm size (size * length xs))
+
+  -- .. each of which is read back
+  pub each_back : (read : List ℕ → A) → ((x : A) → P x → (rest : List ℕ) → read (write x ++ rest) ≡ x)
+      → (xs : List A) (rest : List ℕ) → Each P xs → each_of read size (length xs) (each_bytes write xs ++ rest) ≡ xs
+  unfolding each_of each_bytes
+  each_back read back [] rest h = refl
+  each_back read back (x ∷ xs) rest h =
+      rw (append_assoc (write x) (each_bytes write xs) rest, back x h.0, drop_at (write x) (each_bytes write xs ++ rest) size (sized x h.0))
+      (ap (λ (r : List A). x ∷ r) (each_back read back xs rest h.1))

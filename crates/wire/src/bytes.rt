@@ -1,7 +1,7 @@
 // Bytes, words and numbers of 64 bits of a slice.
 ghost use Rattle.std.specs.Prelude.{◌≡◌, get_or, drop};
 ghost use Rattle.std.proofs.lemmas.List.Edits.{sets};
-ghost use Rattle.wire.specs.Reading.{word_of};
+ghost use Rattle.wire.specs.Reading.{word_of, long_of};
 ghost use Rattle.wire.specs.Writing.{word_bytes, long_bytes};
 
 use crate::layout::{LONG_BYTES, WORD_BYTES};
@@ -52,7 +52,15 @@ pub fn word_bytes(x: u32) -> [u8; WORD_BYTES]
     ]
 }
 
-// A number of 64 bits, the low word first.
+// The number of 64 bits at the front.
+pub fn long_of(bytes: &[u8]) -> u64
+    ensures { result ≡ long_of bytes.now }
+{
+    let low = word_of(bytes) as u64;
+    let high = word_of(from(bytes, WORD_BYTES)) as u64;
+    low + 4294967296 * high
+}
+
 pub fn long_bytes(x: u64) -> [u8; LONG_BYTES]
     ensures { result ≡ long_bytes x }
 {

@@ -1,14 +1,16 @@
 // What the bytes at the front of a slice are read as.
 ghost use Rattle.std.specs.Prelude.{◌≡◌};
 ghost use Rattle.alternative.specs.Guards.{lent};
-ghost use Rattle.wire.specs.Reading.{message_of, action_of, guard_of, offer_of};
+ghost use Rattle.wire.specs.Reading.{message_of, action_of, guard_of, place_of, signal_of, guards_of, offer_of, process_of, head_of};
 
-use crate::bytes::{byte_at, from, word_of};
+use crate::bytes::{byte_at, from, long_of, word_of};
 use crate::layout;
 use crate::wholes::whole_of;
-use alternative::{Action, Guard, GuardList, Message, blank_guard, float_of, held};
+use alternative::{Action, Guard, GuardList, Message, blank_guard, blanked, float_of};
+use process::{Place, Process, Signal, TransactionId};
+use rendezvous::Head;
 
-pub fn message_of(bytes: &[u8]) -> Message
+fn message_of(bytes: &[u8]) -> Message
     ensures { result ≡ message_of bytes.now }
 {
     let first = word_of(from(bytes, layout::FIRST_AT));
@@ -45,21 +47,92 @@ fn guard_of(bytes: &[u8]) -> Guard
     }
 }
 
-// The guards of an offer as a list by value: how many there are bytes for, and the first eight. Slots that it does not fill stay blank.
+fn place_of(bytes: &[u8]) -> Place
+    ensures { result ≡ place_of bytes.now }
+{
+    let i = byte_at(bytes, 1);
+    match byte_at(bytes, 0) {
+        0 => Place::Idle,
+        1 => Place::Entering,
+        2 => Place::Scanning(i),
+        3 => Place::Trying(i),
+        4 => Place::Committed(i, byte_at(bytes, 2)),
+        5 => Place::Posting,
+        6 => Place::Opening,
+        7 => Place::Showing,
+        8 => Place::Asleep(i),
+        9 => Place::Waiting,
+        _ => Place::Met(i, message_of(from(bytes, layout::OUTCOME_AT))),
+    }
+}
+
+fn signal_of(bytes: &[u8]) -> Signal
+    ensures { result ≡ signal_of bytes.now }
+{
+    match byte_at(bytes, 0) {
+        0 => Signal::Absent,
+        _ => Signal::Present(
+            byte_at(bytes, 1),
+            message_of(from(bytes, layout::SIGNALLED_AT)),
+        ),
+    }
+}
+
+fn guards_of(bytes: &[u8]) -> [Guard; layout::SLOTS]
+    ensures { result ≡ guards_of bytes.now }
+{
+    let blank = blank_guard();
+    let mut guards = [blank; layout::SLOTS];
+    let mut k: usize = 0;
+    while k < layout::SLOTS {
+        guards[k] = guard_of(from(bytes, layout::GUARD_BYTES * k));
+        k = k + 1;
+    }
+    guards
+}
+
+// The guards of an offer as a list by value: how many there are bytes for, and the first eight.
 pub fn offer_of(bytes: &[u8]) -> GuardList
     ensures { result ≡ lent (offer_of bytes.now) }
 {
     let count = bytes.len() / layout::GUARD_BYTES;
-    let blank = blank_guard();
-    let mut guards = [blank; layout::SLOTS];
-    let end = held(count);
-    let mut k: usize = 0;
-    while k < end {
-        guards[k] = guard_of(from(bytes, layout::GUARD_BYTES * k));
-        k = k + 1;
-    }
+    let eight = guards_of(bytes);
+    let guards = blanked(eight, count);
     GuardList {
         count: count,
         guards: guards,
+    }
+}
+
+pub fn process_of(bytes: &[u8]) -> Process
+    ensures { result ≡ process_of bytes.now }
+{
+    let place = place_of(bytes);
+    let signal = signal_of(from(bytes, layout::SIGNAL_AT));
+    let ticket = TransactionId(word_of(from(bytes, layout::TICKET_AT)));
+    let guards = guards_of(from(bytes, layout::GUARDS_AT));
+    let altlist = guards_of(from(bytes, layout::ALTLIST_AT));
+    Process {
+        place: place,
+        signal: signal,
+        transaction: ticket,
+        accepting: byte_at(bytes, layout::ACCEPTING_AT) != 0,
+        count: byte_at(bytes, layout::COUNT_AT),
+        altcount: byte_at(bytes, layout::ALTCOUNT_AT),
+        guards: guards,
+        altlist: altlist,
+    }
+}
+
+pub fn head_of(bytes: &[u8]) -> Head
+    ensures { result ≡ head_of bytes.now }
+{
+    let next = TransactionId(word_of(from(bytes, layout::NEXT_AT)));
+    Head {
+        n: byte_at(bytes, 0),
+        nap: byte_at(bytes, 1),
+        next: next,
+        meetings: long_of(from(bytes, layout::MEETINGS_AT)),
+        withdrawn: long_of(from(bytes, layout::WITHDRAWN_AT)),
     }
 }

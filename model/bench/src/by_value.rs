@@ -1,16 +1,11 @@
 //! The model's desk by value: each call takes it and hands it back.
 
 use crate::plan::{given_up, moved, Call, Plan, Setting, MEETING, NAP, NEXT_TICKET, REFUSED};
-use crate::timing::{timed, Run};
 use model::by_value::{Desk, Guard, GuardList, IndexedMessage, Party, Place};
 use model::by_value::{MOST_GUARDS, MOST_PARTIES};
 use model::{Action, Message, Ticket};
 
-pub fn run(plan: Plan, at: Setting, calls: u64) -> Run {
-    timed(|| sum(plan, at, calls))
-}
-
-fn sum(plan: Plan, at: Setting, calls: u64) -> u64 {
+pub fn run(plan: Plan, at: Setting, calls: u64) -> u64 {
     let mut desk = start(plan, at);
     let first = desk.parties[0];
     let mut sum: u64 = 0;

@@ -1,16 +1,10 @@
 //! The model's desk that is changed in place.
 
 use crate::plan::{given_up, moved, Call, Plan, Setting, MEETING, NAP, NEXT_TICKET, REFUSED};
-use crate::timing::{timed, Run};
 use model::{Action, Desk, Guard, IndexedMessage, Message, Party, Place, Ticket};
 
-pub fn run(plan: Plan, at: Setting, calls: u64) -> Run {
+pub fn run(plan: Plan, at: Setting, calls: u64) -> u64 {
     let mut desk = start(plan, at);
-    let offers = [offer_of(0, at), offer_of(1, at)];
-    timed(|| sum(&mut desk, &offers, plan, calls))
-}
-
-fn sum(desk: &mut Desk, offers: &[Vec<Guard>; 2], plan: Plan, calls: u64) -> u64 {
     let first = desk.parties[0].place;
     let mut sum: u64 = 0;
     let mut turn = 0;
@@ -18,7 +12,7 @@ fn sum(desk: &mut Desk, offers: &[Vec<Guard>; 2], plan: Plan, calls: u64) -> u64
         let number = match plan.call(turn) {
             Call::Offer(party) => {
                 let party = usize::from(party);
-                let answer = desk.offer(party, &offers[party]);
+                let answer = desk.offer(party, &[guard_of(party)]);
                 answer.map_or(REFUSED, |ticket| u64::from(ticket.0))
             }
             Call::Step(party) => {
@@ -58,15 +52,6 @@ fn guard_of(party: usize) -> Guard {
     }
 }
 
-/// The last guard meets.
-fn offer_of(party: usize, at: Setting) -> Vec<Guard> {
-    let guard = |index| Guard {
-        enabled: index == at.last(),
-        ..guard_of(party)
-    };
-    (0..=at.last()).map(guard).collect()
-}
-
 fn start(plan: Plan, at: Setting) -> Desk {
     let waiting = vec![guard_of(1); usize::from(at.load)];
     let waiter = Party {
@@ -79,23 +64,22 @@ fn start(plan: Plan, at: Setting) -> Desk {
     let mut desk = Desk::new(usize::from(at.n), NAP).expect("2 to 32 parties are made");
     desk.next_ticket = Ticket(NEXT_TICKET);
     desk.parties = vec![waiter; usize::from(at.n)];
-    desk.parties[0] = starter(plan, 0, at);
-    desk.parties[1] = starter(plan, 1, at);
+    desk.parties[0] = starter(plan, 0);
+    desk.parties[1] = starter(plan, 1);
     desk
 }
 
-fn starter(plan: Plan, party: usize, at: Setting) -> Party {
-    let index = usize::from(at.last());
+fn starter(plan: Plan, party: usize) -> Party {
     let place = match plan {
         Plan::Meeting | Plan::Offer => return Party::fresh(),
         Plan::Collect => Place::Met(IndexedMessage {
-            index,
+            index: 0,
             message: Message::Nothing,
         }),
-        Plan::Step | Plan::StepSame | Plan::Movers | Plan::Withdraw => Place::Scanning(index),
+        Plan::Step | Plan::StepSame | Plan::Movers | Plan::Withdraw => Place::Scanning(0),
     };
     Party {
-        guards: offer_of(party, at),
+        guards: vec![guard_of(party)],
         ticket: Ticket(party as u32),
         place,
         ..Party::fresh()

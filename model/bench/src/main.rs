@@ -1,104 +1,117 @@
-//! The library in place beside Rust in place, and the proved calls by value
-//! beside Rust by value, in one run.
+//! The proved calls beside Rust of the same checks, in one run.
 //!
-//! `bench` prints tables and stacks; `bench PROGRAM MODEL` also times two script
-//! programs, and `bench PROGRAM MODEL GO` a program that prints the time of a
-//! rendezvous in Go; `bench once LOOP CALL N LOAD CALLS` runs one loop and no
-//! clock, to be counted from outside.
+//! `bench` prints tables; `bench PROGRAM MODEL` also times two script programs;
+//! `bench once LOOP CALL N LOAD CALLS` runs one loop and no clock, to be counted
+//! from outside.
 
 mod by_value;
-mod bytes;
-mod go;
 mod in_place;
-mod library;
 mod plan;
 mod proved;
 #[path = "../../../crates/exports/rendezvous.rs"]
 mod rendezvous;
 mod script;
-mod stack;
-mod table;
+mod through_bytes;
 mod timing;
 
 use plan::{Plan, Setting};
 use std::process::ExitCode;
-use table::{Pair, Row};
-use timing::{Loop, REPEATS};
-
-const IN_PLACE: Pair = Pair {
-    names: ["library", "Rust"],
-    loops: [library::run, in_place::run],
-};
-
-const BY_VALUE: Pair = Pair {
-    names: ["proved", "by value"],
-    loops: [proved::run, by_value::run],
-};
+use timing::{measure, median, ratios, spread, Times, REPEATS};
 
 fn main() -> ExitCode {
     let words: Vec<String> = std::env::args().skip(1).collect();
     let words: Vec<&str> = words.iter().map(String::as_str).collect();
-    let done = match words.as_slice() {
-        [] => all(None, None),
-        ["once", which, call, n, load, calls] => once(which, call, [n, load, calls]),
-        [program, model] => all(Some((program, model)), None),
-        [program, model, go] => all(Some((program, model)), Some(go)),
-        _ => Err("usage: bench [PROGRAM MODEL [GO]]".to_string()),
-    };
-    match done {
-        Ok(()) => ExitCode::SUCCESS,
-        Err(sentence) => {
-            eprintln!("{sentence}");
-            ExitCode::FAILURE
+    match words.as_slice() {
+        [] => calls(),
+        ["once", which, call, n, load, calls] => {
+            let Some(sum) = once(which, call, [n, load, calls]) else {
+                eprintln!("usage: bench once proved|by-value|in-place CALL N LOAD CALLS");
+                return ExitCode::FAILURE;
+            };
+            println!("{sum}");
+        }
+        [program, model] => {
+            calls();
+            if let Err(sentence) = script::compare(program, model) {
+                eprintln!("{sentence}");
+                return ExitCode::FAILURE;
+            }
+        }
+        _ => {
+            eprintln!("usage: bench [PROGRAM MODEL]");
+            return ExitCode::FAILURE;
         }
     }
+    ExitCode::SUCCESS
 }
 
-fn all(scripts: Option<(&str, &str)>, go: Option<&str>) -> Result<(), String> {
+fn calls() {
     println!("ns a call, or a meeting of 14 calls: the least of {REPEATS} repeats.");
     println!("The ratio is their median, with the least and the greatest.");
-    println!("\nIn place. An offer has one guard; the other parties wait with empty lists.");
-    let rows = IN_PLACE.print(0, &[2, 8, 32]);
-    go::compare(go, Row::meeting_of_two(&rows))?;
-    println!("\nIn place. All lists have eight guards, and the last of an offer meets.");
-    IN_PLACE.print(8, &[2, 8, 32]);
-    println!("\nBy value. The other parties wait with empty lists.");
-    BY_VALUE.print(0, &[2, 8, 32]);
-    println!("\nBy value. The other parties wait with lists of eight guards.");
-    BY_VALUE.print(8, &[8, 32]);
-    if let Some((program, model)) = scripts {
-        script::compare(program, model)?;
-    }
+    println!("\nThe other parties wait with empty lists.");
+    table(0, &[2, 8, 32]);
+    println!("\nThe other parties wait with lists of eight guards.");
+    table(8, &[8, 32]);
     println!();
-    stack::print();
-    Ok(())
+    through_bytes::print(&[2, 8, 32]);
 }
 
-/// One loop with no clock.
-fn once(which: &str, call: &str, numbers: [&str; 3]) -> Result<(), String> {
-    let (each, plan, at, calls) = understood(which, call, numbers)
-        .ok_or("usage: bench once library|in-place|proved|by-value CALL N LOAD CALLS")?;
-    println!("{}", each(plan, at, calls).sum);
-    Ok(())
+/// The calls at each n, and how a step's time grows from the first n to the last.
+fn table(load: u8, sizes: &[u8]) {
+    println!("   n  call       proved  by value  in place   proved / by value");
+    let mut steps = Vec::new();
+    for &n in sizes {
+        for plan in Plan::ALL {
+            let times = measure(plan, Setting { n, load });
+            print_row(n, plan, &times);
+            if plan == Plan::Step {
+                steps.push((n, times));
+            }
+        }
+    }
+    if let [first, .., last] = steps.as_slice() {
+        print_growth(first, last);
+    }
 }
 
-/// The words of `once`; none if one of them is not understood.
-fn understood(
-    which: &str,
-    call: &str,
-    [n, load, calls]: [&str; 3],
-) -> Option<(Loop, Plan, Setting, u64)> {
-    let each: Loop = match which {
-        "library" => library::run,
-        "in-place" => in_place::run,
+fn print_row(n: u8, plan: Plan, times: &Times) {
+    let ratios = ratios(&times.proved, &times.by_value);
+    let (least, greatest) = spread(&ratios);
+    println!(
+        "{n:4}  {:8}{:9.0}{:10.0}{:10.0}   {:.2} ({least:.2} to {greatest:.2})",
+        plan.name(),
+        spread(&times.proved).0,
+        spread(&times.by_value).0,
+        spread(&times.in_place).0,
+        median(&ratios),
+    );
+}
+
+/// What a step costs more for each further party.
+fn print_growth((few, at_few): &(u8, Times), (many, at_many): &(u8, Times)) {
+    let parties = f64::from(many - few);
+    let each = |one: &[f64], other: &[f64]| (spread(other).0 - spread(one).0) / parties;
+    println!(
+        "A step takes {:.1} ns more for each party from {few} to {many}; by value {:.1}, in place {:.1}.",
+        each(&at_few.proved, &at_many.proved),
+        each(&at_few.by_value, &at_many.by_value),
+        each(&at_few.in_place, &at_many.in_place),
+    );
+}
+
+/// One loop with no clock; none if a word is not understood.
+fn once(which: &str, call: &str, numbers: [&str; 3]) -> Option<u64> {
+    let run = match which {
         "proved" => proved::run,
         "by-value" => by_value::run,
+        "in-place" => in_place::run,
         _ => return None,
     };
     let plan = Plan::ALL.into_iter().find(|plan| plan.name() == call)?;
+    let [n, load, calls] = numbers;
     let at = Setting {
         n: n.parse().ok().filter(|n| (2..=32).contains(n))?,
         load: load.parse().ok().filter(|&load| load <= 8)?,
     };
-    Some((each, plan, at, calls.parse().ok()?))
+    Some(run(plan, at, calls.parse().ok()?))
 }

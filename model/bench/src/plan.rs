@@ -1,5 +1,5 @@
-//! What is called, in turn. All loops follow the same plans, and the sum of
-//! their answers is the plan's.
+//! What is called, in turn. The three loops follow the same plans, and so
+//! their sums of answers are the same.
 
 use model::Withdrawal;
 
@@ -17,25 +17,12 @@ pub enum Plan {
     Withdraw,
 }
 
-#[derive(Clone, Copy)]
 pub enum Call {
     Offer(u8),
     Step(u8),
     Collect(u8),
     Withdraw(u8),
     Movers,
-}
-
-impl Call {
-    pub fn name(self) -> &'static str {
-        match self {
-            Call::Offer(_) => "offer",
-            Call::Step(_) => "step",
-            Call::Collect(_) => "collect",
-            Call::Withdraw(_) => "withdraw",
-            Call::Movers => "movers",
-        }
-    }
 }
 
 /// How many calls make a meeting.
@@ -96,25 +83,6 @@ impl Plan {
         matches!(self, Plan::Offer | Plan::Collect | Plan::Withdraw)
     }
 
-    /// The sum of the answers of so many calls, none of which is refused. A loop
-    /// that does not do the plan's work has another one.
-    pub fn sum(self, calls: u64) -> u64 {
-        let mut next_ticket = u64::from(NEXT_TICKET);
-        let turns = (0..MEETING).cycle().zip(0..calls);
-        let answers = turns.map(|(turn, _)| match self.call(turn) {
-            Call::Offer(_) => {
-                next_ticket += 1;
-                next_ticket - 1
-            }
-            Call::Step(_) => moved(self != Plan::StepSame),
-            Call::Collect(party) => u64::from(1 - party),
-            Call::Withdraw(_) => given_up(Withdrawal::Withdrawn),
-            // Party 1 alone: 0 is the older one of the two.
-            Call::Movers => 1 << 1,
-        });
-        answers.sum()
-    }
-
     /// How many calls the figure is for.
     pub fn calls(self) -> u64 {
         match self {
@@ -130,15 +98,6 @@ impl Plan {
 pub struct Setting {
     pub n: u8,
     pub load: u8,
-}
-
-impl Setting {
-    /// The index of the guard that meets, the last one of an offer in place:
-    /// `load` guards, or one where that is 0. Those before it are disabled, so
-    /// that a meeting takes the same calls. By value an offer has one guard.
-    pub fn last(self) -> u8 {
-        self.load.saturating_sub(1)
-    }
 }
 
 /// What a refusal counts in a sum of answers: it shows.

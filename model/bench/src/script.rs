@@ -8,7 +8,7 @@ use std::time::Instant;
 
 const REPEATS: usize = 9;
 const LINES: usize = 100_000;
-pub const LONG: &str = include_str!("../../../examples/long.script");
+const LONG: &str = include_str!("../../../examples/long.script");
 
 /// The long example, again and again.
 fn mixed() -> String {

@@ -1,6 +1,7 @@
-//! Times two loops in turn, repeat by repeat.
+//! Times three loops in turn, repeat by repeat.
 
 use crate::plan::{Plan, Setting};
+use crate::{by_value, in_place, proved};
 use std::hint::black_box;
 use std::time::Instant;
 
@@ -11,50 +12,46 @@ const RUNS: usize = 40;
 /// A run's calls: 30 meetings, some 0.1 ms.
 const CALLS: u64 = 420;
 
-/// Makes so many calls by a plan.
-pub type Loop = fn(Plan, Setting, u64) -> Run;
-
-/// What a loop gives: the sum of the answers, and the time.
-pub struct Run {
-    pub sum: u64,
-    nanoseconds: f64,
-}
-
-/// Runs what gives a sum.
-pub fn timed(calls: impl FnOnce() -> u64) -> Run {
-    let begun = Instant::now();
-    let sum = black_box(calls());
-    Run {
-        sum,
-        nanoseconds: begun.elapsed().as_nanos() as f64,
-    }
-}
+type Loop = fn(Plan, Setting, u64) -> u64;
+const LOOPS: [Loop; 3] = [proved::run, by_value::run, in_place::run];
 
 /// Nanoseconds for one call, or one meeting, in each repeat.
-pub type Times = [f64; REPEATS];
+pub struct Times {
+    pub proved: [f64; REPEATS],
+    pub by_value: [f64; REPEATS],
+    pub in_place: [f64; REPEATS],
+}
 
 /// Every repeat stands elsewhere on the stack. The time of a copy depends on
 /// the addresses, by their low bits and by their physical pages, and one loop
 /// can be unlucky at a place where another is not.
-pub fn measure(loops: [Loop; 2], plan: Plan, at: Setting) -> [Times; 2] {
-    let mut best = [[f64::MAX; REPEATS]; 2];
+pub fn measure(plan: Plan, at: Setting) -> Times {
+    let mut best = [[f64::MAX; REPEATS]; 3];
     for repeat in 0..REPEATS {
         deeper(repeat, &mut || {
             for _ in 0..RUNS {
-                for (each, times) in loops.iter().zip(&mut best) {
+                for (each, times) in LOOPS.iter().zip(&mut best) {
                     times[repeat] = times[repeat].min(run_once(*each, plan, at));
                 }
             }
         });
     }
-    best
+    let [proved, by_value, in_place] = best;
+    Times {
+        proved,
+        by_value,
+        in_place,
+    }
 }
 
-/// The time of one run.
+/// The time of one run. A loop that does not do the plan's work has another sum.
 fn run_once(each: Loop, plan: Plan, at: Setting) -> f64 {
-    let run = each(plan, at, black_box(CALLS));
-    assert_eq!(run.sum, plan.sum(CALLS), "a loop strays from its plan");
-    run.nanoseconds * plan.calls() as f64 / CALLS as f64
+    let calls = black_box(CALLS);
+    let begun = Instant::now();
+    let sum = black_box(each(plan, at, calls));
+    let nanoseconds = begun.elapsed().as_nanos() as f64;
+    assert_eq!(sum, proved::run(plan, at, calls), "the loops differ");
+    nanoseconds * plan.calls() as f64 / CALLS as f64
 }
 
 /// Works five pages and 464 bytes further down the stack for each level.
@@ -76,17 +73,13 @@ pub fn median(times: &[f64]) -> f64 {
 }
 
 /// The ratios of two loops, repeat by repeat.
-pub fn ratios([times, others]: &[Times; 2]) -> Times {
+pub fn ratios(times: &[f64; REPEATS], others: &[f64; REPEATS]) -> [f64; REPEATS] {
     std::array::from_fn(|repeat| times[repeat] / others[repeat])
-}
-
-/// The least.
-pub fn least(times: &[f64]) -> f64 {
-    times.iter().copied().fold(f64::MAX, f64::min)
 }
 
 /// The least and the greatest.
 pub fn spread(times: &[f64]) -> (f64, f64) {
+    let least = times.iter().copied().fold(f64::MAX, f64::min);
     let greatest = times.iter().copied().fold(f64::MIN, f64::max);
-    (least(times), greatest)
+    (least, greatest)
 }

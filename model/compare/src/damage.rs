@@ -6,7 +6,7 @@ use crate::draw::{self, list, message, rank_of, BYTES, NAN_IN};
 use crate::library::Start;
 use crate::posted::{answer_some, commit_some, with_others};
 use crate::random::Random;
-use crate::rendezvous::raw::PROCESSES;
+use crate::rendezvous::PROCESSES;
 use crate::wire::BLANK;
 use model::{Call, Desk, Guard, IndexedMessage, Party, Place, Ticket};
 

@@ -3,17 +3,15 @@
 
 use crate::damage::{self, POINTS};
 use crate::draw;
-use crate::library::{both, both_create, line, make, Library, Start};
-use crate::noise;
+use crate::library::{both, line, Library, Start};
 use crate::part::{Budget, Finding, Verdict};
 use crate::plans::guard;
 use crate::random::Random;
 use crate::reduce_desk::reduce;
-use crate::rendezvous::raw::{HEAD_BYTES, HEAD_MEETINGS, LIST_RANKS, RECORD_BYTES, RECORD_KEPT};
-use crate::rendezvous::raw::{RECORD_OWN, RECORD_PLACE, RECORD_POSTED};
-use crate::short;
+use crate::rendezvous::{GUARD_BYTES, GUARD_RANK, HEAD_BYTES, HEAD_MEETINGS, RECORD_BYTES};
+use crate::rendezvous::{RECORD_KEPT, RECORD_OWN, RECORD_PLACE, RECORD_POSTED};
 use crate::tally::Tally;
-use crate::wire::{decode, encode, encode_over, Table};
+use crate::wire::{decode, encode, normal, Table};
 use model::{Call, Desk, Place, Ticket};
 
 /// Tables for each seed, and calls on each of them.
@@ -30,7 +28,6 @@ pub fn run(library: &dyn Library, budget: Budget) -> Verdict {
         let found = |text| Finding::new(seed, text);
         if seed == budget.seed {
             creations(library, &mut tally).map_err(found)?;
-            tally.short_calls += short::every_length(library).map_err(found)?;
         }
         let mut part = Tables {
             library,
@@ -46,8 +43,8 @@ pub fn run(library: &dyn Library, budget: Budget) -> Verdict {
     print!("{}", tally.listed());
     match tally.missed().as_slice() {
         [] => Ok(format!(
-            "damaged tables: {tables} tables, {} calls and {} with too few bytes, every refusal, rule, withdrawal and point hit",
-            tally.calls, tally.short_calls
+            "damaged tables: {tables} tables, {} calls, every refusal, rule, withdrawal and point hit",
+            tally.calls
         )),
         missed => Err(Finding::new(
             budget.seed,
@@ -58,14 +55,17 @@ pub fn run(library: &dyn Library, budget: Budget) -> Verdict {
 
 /// Every number of processes with every nap length: a fresh table, 1 or 15.
 fn creations(library: &dyn Library, tally: &mut Tally) -> Result<(), String> {
-    let mut random = Random::new(0);
-    for n in 0..=255 {
-        let under = noise::random_bytes(&mut random);
-        for nap in 0..=255 {
-            let made = both_create(library, &under, n, nap);
-            if let Err(number) = made.map_err(|text| format!("call: n {n} {nap}\n{text}"))? {
-                tally.refused(number);
-            }
+    for (n, nap) in (0..=255).flat_map(|n| (0..=255).map(move |nap| (n, nap))) {
+        let given = library.create(n, nap);
+        let expected = Desk::new(usize::from(n), nap).map_err(model::Refusal::number);
+        let expected = expected.map(|desk| encode(&desk));
+        if given != expected {
+            return Err(format!(
+                "n {n} {nap}: the fresh tables or the refusals differ"
+            ));
+        }
+        if let Err(number) = given {
+            tally.refused(number);
         }
     }
     Ok(())
@@ -81,17 +81,16 @@ fn every_two_ranks(library: &dyn Library) -> Result<(), String> {
     desk.parties[1].wake_count = 0;
     desk.next_ticket = Ticket(2);
     let mut table = encode(&desk);
-    let rank_at = |list: usize, slot: usize| HEAD_BYTES + list + LIST_RANKS + slot;
+    let rank_at = |list: usize, slot: usize| HEAD_BYTES + list + slot * GUARD_BYTES + GUARD_RANK;
     let call = Call::Step { party: 0 };
     for (one, other) in (0..=255).flat_map(|one| (0..=255).map(move |other| (one, other))) {
         let bytes = table.bytes_mut();
         bytes[rank_at(RECORD_OWN, 0)] = one ^ other;
         bytes[rank_at(RECORD_BYTES + RECORD_POSTED, 0)] = one;
         bytes[rank_at(RECORD_BYTES + RECORD_POSTED, 1)] = other;
-        let mut after = table.clone();
-        let answer = make(library, &mut after, &call);
-        let place = &after.bytes()[HEAD_BYTES + RECORD_PLACE..];
-        if answer.is_err() || place[..=RECORD_KEPT] != [COMMITTED, 0, u8::from(other > one)] {
+        let reply = library.call(&table, &call);
+        let place = &reply.table.bytes()[HEAD_BYTES + RECORD_PLACE..];
+        if place[..=RECORD_KEPT] != [COMMITTED, 0, u8::from(other > one)] {
             let text = format!("of ranks {one} and {other} the other guard is kept, or none");
             return Err(told(library, &table, &call, &text));
         }
@@ -108,33 +107,26 @@ struct Tables<'a> {
 impl Tables<'_> {
     fn one(&mut self) -> Result<(), String> {
         let random = &mut self.random;
-        let desk = match random.below(16) {
-            0..=8 => damage::odd_desk(random),
-            9..=11 => damage::changed_desk(random),
-            12 => damage::any_desk(random),
-            13 => {
-                let table = random_bytes(random);
-                return self.calls_on(table);
-            }
+        let table = match random.below(16) {
+            0..=7 => encode(&damage::odd_desk(random)),
+            8..=10 => encode(&damage::changed_desk(random)),
+            11 => slack(random),
+            12 => encode(&damage::any_desk(random)),
+            13 => random_bytes(random),
             _ => return self.out_of_form(),
         };
-        let table = noise::rough(random, &desk);
         self.calls_on(table)
     }
 
     /// Some calls one after the other, each on what the one before left.
     fn calls_on(&mut self, mut table: Table) -> Result<(), String> {
-        let mut desk = decode(table.bytes());
-        let first = draw::call(&mut self.random, desk.n.clamp(2, 32));
-        short::once(self.library, &mut self.random, &table, &first)?;
-        self.tally.short_calls += 1;
+        let mut desk = decode(&table);
         for _ in 0..CALLS {
             let call = draw::call(&mut self.random, desk.n.clamp(2, 32));
             let before = desk.clone();
             let reply = both(self.library, &table, &mut desk, &call)
                 .map_err(|text| told(self.library, &table, &call, &text))?;
             self.tally.note(&before, &call, &reply);
-            self.tally.bytes(&table, &before, &call, &reply);
             table = reply.table;
         }
         Ok(())
@@ -147,8 +139,7 @@ impl Tables<'_> {
         if !damage::spoil(&mut self.random, &mut desk, point) {
             return Ok(());
         }
-        let table = noise::rough(&mut self.random, &desk);
-        let n = desk.n.clamp(2, 32);
+        let (table, n) = (encode(&desk), desk.n.clamp(2, 32));
         for _ in 0..CALLS {
             let call = draw::call(&mut self.random, n);
             let told = |text: &str| told(self.library, &table, &call, text);
@@ -163,35 +154,48 @@ impl Tables<'_> {
     }
 }
 
-/// Random bytes with totals that fit, in half of them: eight bytes are nearly always too
-/// great a total.
+/// A desk in form whose lists have something in the slots past their ends.
+fn slack(random: &mut Random) -> Table {
+    let desk = damage::odd_desk(random);
+    let other = encode(&damage::any_desk(random));
+    let mut table = encode(&desk);
+    for (number, record) in desk.parties.iter().enumerate() {
+        for at in Table::slots_past(number, record.guards.len(), record.posted.len()) {
+            table.bytes_mut()[at] = other.bytes()[at];
+        }
+    }
+    table
+}
+
+/// Any bytes are a table too, mostly one out of form.
 fn random_bytes(random: &mut Random) -> Table {
-    let mut table = noise::random_bytes(random);
+    let mut table = Table::zero();
+    let most = random.pick(&[2, 4, 12, 256]);
+    for byte in table.bytes_mut() {
+        *byte = random.below(most) as u8;
+    }
+    // Eight bytes are nearly always too great a total.
     if random.one_in(2) {
         table.bytes_mut()[HEAD_MEETINGS..HEAD_BYTES].fill(0);
     }
     table
 }
 
-/// The complaint, with the smallest table and call that still bring one: in plain bytes,
-/// or else with odd ones as they were.
+/// The complaint, with the smallest table and call that still bring one.
 pub fn told(library: &dyn Library, table: &Table, call: &Call, text: &str) -> String {
-    let again = |table: &Table, call: &Call| {
-        let mut desk = decode(table.bytes());
-        both(library, table, &mut desk, call).err()
-    };
-    let desk = decode(table.bytes());
-    let (under, bytes) = match again(&encode(&desk), call) {
-        Some(_) => (Table::zero(), "plain bytes"),
-        None => (table.clone(), "odd bytes, which it needs"),
-    };
-    let fails = |desk: &Desk, call: &Call| again(&encode_over(desk, &under), call).is_some();
-    let (desk, call) = reduce((desk, call.clone()), fails);
-    let mut shown = format!("{text}\nthe smallest table and call found, in {bytes}:\n");
+    let differs =
+        |table: &Table, call: &Call| both(library, table, &mut decode(table), call).is_err();
+    let given = (decode(&normal(table)), call.clone());
+    let (desk, call) = reduce(given, |desk, call| differs(&encode(desk), call));
+    let mut shown = format!("{text}\nthe smallest table and call found:\n");
     shown.push_str(&show(&desk));
     shown.push_str(&format!("call: {}\n", line(&call)));
-    let again = again(&encode_over(&desk, &under), &call);
-    shown.push_str(again.as_deref().unwrap_or("(once more the two agree)"));
+    if let Err(text) = both(library, &encode(&desk), &mut desk.clone(), &call) {
+        shown.push_str(&text);
+    } else {
+        shown
+            .push_str("(on this table the two agree: the difference needs the bytes as they were)");
+    }
     shown
 }
 
@@ -215,36 +219,12 @@ mod tests {
     use crate::erring::{Erring, OtherNap, ScansByRank, ERRORS, NAP_ERRORS};
     use crate::erring::{KIND_BLIND, RANK_ERRORS};
     use crate::miscounting::{MISCOUNTS, OTHER_SUMS};
-    use crate::untidy::UNTIDY;
-    use crate::wrapped::Wrapped;
     use std::time::Duration;
 
     fn found(library: &dyn Library) -> String {
         let time = Duration::from_secs(20);
         let found = run(library, Budget { seed: 1, time }).err();
         found.expect("a difference").text
-    }
-
-    #[test]
-    fn the_types_of_the_librarys_file_say_the_same_as_its_bytes() {
-        let mut tally = Tally::new();
-        assert_eq!(creations(&Wrapped, &mut tally), Ok(()));
-        let mut part = Tables {
-            library: &Wrapped,
-            random: Random::new(1),
-            tally: &mut tally,
-        };
-        for _ in 0..2000 {
-            assert_eq!(part.one(), Ok(()));
-        }
-    }
-
-    #[test]
-    fn untidy_libraries_are_found_and_told_by_one_call() {
-        for library in &UNTIDY {
-            let text = found(library);
-            assert!(text.contains("call: "), "{text}");
-        }
     }
 
     #[test]

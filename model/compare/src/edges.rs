@@ -4,7 +4,7 @@
 use crate::library::Start;
 use crate::plans::guard;
 use crate::random::Random;
-use crate::rendezvous::raw::PROCESSES;
+use crate::rendezvous::PROCESSES;
 use model::{Desk, Guard, IndexedMessage, Message, Party, Place, Ticket};
 use std::collections::BTreeSet;
 

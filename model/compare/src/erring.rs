@@ -1,9 +1,10 @@
 //! Libraries that err, in withdrawals, in kinds, in ranks or in naps, to try whether the
 //! parts find it.
 
-use crate::library::in_model;
-use crate::modelled::ByDesk;
-use model::{Call, Desk, Given, Guard, Place, Withdrawal};
+use crate::library::{in_model, Library, Modelled, Reply};
+use crate::rendezvous::HEAD_NAP;
+use crate::wire::{decode, encode, normal, Table};
+use model::{Call, Given, Guard, Place, Withdrawal};
 
 type Said = Result<Given, u8>;
 
@@ -26,20 +27,28 @@ pub struct Erring {
     pub wrong: Said,
 }
 
-impl ByDesk for Erring {
-    fn call_on(&self, desk: &mut Desk, call: &Call) -> Said {
-        let before = desk.clone();
-        let said = in_model(desk, call);
+impl Library for Erring {
+    fn create(&self, n: u8, nap: u8) -> Result<Table, u8> {
+        Modelled.create(n, nap)
+    }
+
+    fn call(&self, table: &Table, call: &Call) -> Reply {
+        let reply = Modelled.call(table, call);
         match call {
-            Call::Withdraw { party } if said == self.right => {
-                *desk = before;
-                desk.withdrawn += u64::from(self.wrong == WITHDRAWN);
-                desk.parties[*party].place = Place::Idle;
-                self.wrong
-            }
-            _ => said,
+            Call::Withdraw { party } if reply.answer == self.right => Reply {
+                answer: self.wrong,
+                table: put_to_idle(table, *party, &self.wrong),
+            },
+            _ => reply,
         }
     }
+}
+
+fn put_to_idle(table: &Table, party: usize, said: &Said) -> Table {
+    let mut desk = decode(table);
+    desk.withdrawn += u64::from(*said == WITHDRAWN);
+    desk.parties[party].place = Place::Idle;
+    encode(&desk)
 }
 
 /// What an erring search makes of the partner's posted list, for this own guard,
@@ -91,48 +100,55 @@ fn only(posted: &mut [Guard], matching: impl Fn(&Guard) -> bool) {
 /// The model, but rule 7 searches a list that this has changed.
 pub struct OtherSearch(pub OtherList);
 
-impl ByDesk for OtherSearch {
-    fn call_on(&self, desk: &mut Desk, call: &Call) -> Said {
-        let mut right = desk.clone();
-        let said = in_model(&mut right, call);
-        let searching = match call {
-            Call::Step { party } if said.is_ok() => desk.parties.get(*party),
-            _ => None,
+impl Library for OtherSearch {
+    fn create(&self, n: u8, nap: u8) -> Result<Table, u8> {
+        Modelled.create(n, nap)
+    }
+
+    fn call(&self, table: &Table, call: &Call) -> Reply {
+        let right = Modelled.call(table, call);
+        let mut desk = decode(table);
+        let (Call::Step { party }, Ok(_)) = (call, &right.answer) else {
+            return right;
         };
-        let own = searching.and_then(|record| match record.place {
-            Place::Trying(own) => Some(record.guards[own]),
-            _ => None,
-        });
-        let Some(own) = own else {
-            *desk = right;
-            return said;
+        let Place::Trying(own) = desk.parties[*party].place else {
+            return right;
         };
+        let own = desk.parties[*party].guards[own];
         let posted = desk.parties[own.partner].posted.clone();
         self.0(&own, &mut desk.parties[own.partner].posted);
-        let said = in_model(desk, call);
+        let answer = in_model(&mut desk, call);
         desk.parties[own.partner].posted = posted;
-        said
+        let table = normal(&encode(&desk));
+        Reply { answer, table }
     }
 }
 
 /// The model, but a process begins its scan at the enabled guard of greatest rank.
 pub struct ScansByRank;
 
-impl ByDesk for ScansByRank {
-    fn call_on(&self, desk: &mut Desk, call: &Call) -> Said {
-        let before = desk.clone();
-        let said = in_model(desk, call);
-        let (Call::Step { party }, Ok(Given::Place(Some(_)))) = (call, &said) else {
-            return said;
+impl Library for ScansByRank {
+    fn create(&self, n: u8, nap: u8) -> Result<Table, u8> {
+        Modelled.create(n, nap)
+    }
+
+    fn call(&self, table: &Table, call: &Call) -> Reply {
+        let right = Modelled.call(table, call);
+        let mut desk = decode(&right.table);
+        let (Call::Step { party }, Ok(Given::Place(Some(_)))) = (call, &right.answer) else {
+            return right;
         };
-        let begins = before.parties[*party].place == Place::Entering;
+        let begins = decode(table).parties[*party].place == Place::Entering;
         let record = &mut desk.parties[*party];
         let enabled = (0..record.guards.len()).filter(|&at| record.guards[at].enabled);
         match enabled.min_by_key(|&at| !record.guards[at].rank) {
             Some(at) if begins => record.place = Place::Scanning(at),
-            _ => return said,
+            _ => return right,
         }
-        Ok(Given::Place(Some(record.place.answer())))
+        Reply {
+            answer: Ok(Given::Place(Some(record.place.answer()))),
+            table: normal(&encode(&desk)),
+        }
     }
 }
 
@@ -148,12 +164,17 @@ pub const NAP_ERRORS: [fn(u8) -> u8; 3] = [
 /// it too.
 pub struct OtherNap(pub fn(u8) -> u8);
 
-impl ByDesk for OtherNap {
-    fn call_on(&self, desk: &mut Desk, call: &Call) -> Said {
-        let nap = desk.nap;
-        desk.nap = if nap == 0 { 0 } else { self.0(nap) };
-        let said = in_model(desk, call);
-        desk.nap = nap;
-        said
+impl Library for OtherNap {
+    fn create(&self, n: u8, nap: u8) -> Result<Table, u8> {
+        Modelled.create(n, nap)
+    }
+
+    fn call(&self, table: &Table, call: &Call) -> Reply {
+        let nap = table.bytes()[HEAD_NAP];
+        let mut other = table.clone();
+        other.bytes_mut()[HEAD_NAP] = if nap == 0 { 0 } else { self.0(nap) };
+        let mut reply = Modelled.call(&other, call);
+        reply.table.bytes_mut()[HEAD_NAP] = nap;
+        reply
     }
 }

@@ -5,9 +5,9 @@ use crate::draw::BYTES;
 use crate::fit::{fit, kept, none_match};
 use crate::library::{both, line, Library, Reply, Start};
 use crate::reduce::{smallest, with_zeros};
-use crate::rendezvous::raw;
+use crate::rendezvous;
 use crate::sum;
-use crate::wire::Table;
+use crate::wire::{encode, Table};
 use model::{Answer, Book, Call, Desk, Entry, Given, Guard, Meeting, OpenOffer, Ticket};
 use model::{Moment, Told, Withdrawal};
 use std::collections::BTreeSet;
@@ -30,14 +30,19 @@ pub struct Follow {
 
 impl Follow {
     pub fn new(library: &dyn Library, start: Start) -> Result<Follow, String> {
-        Ok(Follow {
-            table: start.table(library)?,
-            desk: start.desk(),
-            book: Book::default(),
-            ended: BTreeSet::new(),
-            met: 0,
-            withdrew: 0,
-        })
+        let desk = start.desk();
+        let table = start.table(library)?;
+        match table.first_difference(&encode(&desk)) {
+            Some(place) => Err(format!("the fresh tables differ at {place}")),
+            None => Ok(Follow {
+                table,
+                desk,
+                book: Book::default(),
+                ended: BTreeSet::new(),
+                met: 0,
+                withdrew: 0,
+            }),
+        }
     }
 
     /// Makes one call on all three sides and compares them. The error is a
@@ -201,7 +206,7 @@ impl Follow {
             "the model's totals are not those of the run",
         )?;
         expect(
-            (raw::meetings(bytes), raw::withdrawn(bytes)) == run,
+            (rendezvous::meetings(bytes), rendezvous::withdrawn(bytes)) == run,
             "the library's totals are not those of the run",
         )?;
         expect(
@@ -209,7 +214,7 @@ impl Follow {
             "the model's totals do not make up its next ticket",
         )?;
         expect(
-            sum::of_table(table) == u128::from(raw::offers(bytes)),
+            sum::of_table(table) == u128::from(rendezvous::offers(bytes)),
             "the library's totals do not make up its next ticket",
         )
     }

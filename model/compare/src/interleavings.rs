@@ -10,7 +10,7 @@ use crate::part::{Budget, Finding, Verdict};
 use crate::plans::{has_kinds, has_ranks, plans, Plan};
 use crate::plans::{PAIRS, PAIRS_BY_KIND, PAIRS_BY_RANK, PAIRS_WITH_NAPS, TRIPLES};
 use crate::ranks::{self, Ranks};
-use crate::wire::{message_bytes, normal};
+use crate::wire::put_message;
 use model::{Call, Given, Withdrawal};
 use std::collections::HashSet;
 use std::time::Instant;
@@ -222,11 +222,11 @@ fn path_to(paths: &Paths, mut at: usize, last: Call) -> Vec<Call> {
     calls
 }
 
-/// All that tells two states apart: what the table says, the book, the offers made
-/// and who may still withdraw. The open offers of table and book agree, so the book
-/// adds only what is due and the tickets that have ended.
+/// All that tells two states apart: the table, the book, the offers made and who
+/// may still withdraw. The open offers of table and book agree, so the book adds
+/// only what is due and the tickets that have ended.
 fn key(state: &State, n: usize) -> Vec<u8> {
-    let mut key = normal(state.follow.table.bytes(), n);
+    let mut key = state.follow.table.part(n).to_vec();
     key.extend(state.offers_made.iter().map(|&count| count as u8));
     key.extend(state.may_withdraw.iter().map(|&may| u8::from(may)));
     for ticket in &state.follow.ended {
@@ -235,7 +235,7 @@ fn key(state: &State, n: usize) -> Vec<u8> {
     for party in 0..n {
         if let Some(due) = state.follow.book.due(party) {
             key.extend([party as u8, due.index as u8, due.partner as u8]);
-            key.extend(message_bytes(due.message));
+            put_message(&mut key, due.message);
         }
     }
     key
@@ -245,7 +245,7 @@ fn key(state: &State, n: usize) -> Vec<u8> {
 mod tests {
     use super::*;
     use crate::erring::{Erring, OtherNap, ScansByRank, ERRORS, NAP_ERRORS, RANK_ERRORS};
-    use crate::modelled::Modelled;
+    use crate::library::Modelled;
     use crate::plans::{every_pair_by_rank, guard, Role};
     use model::Guard;
     use std::time::Duration;

@@ -4,8 +4,7 @@
 //! of greatest rank; and nothing is lost or given twice.
 
 use crate::fit::kept;
-use crate::rendezvous::raw::MESSAGE_BYTES;
-use crate::wire::message_bytes;
+use crate::wire::put_message;
 use model::{Call, Given, Guard, Message, Outcome, Withdrawal};
 use std::collections::{BTreeMap, BTreeSet};
 
@@ -15,7 +14,7 @@ pub type History = Vec<(Call, Result<Given, u8>)>;
 
 /// A message's nine bytes. In a history that is checked no two guards send the
 /// same.
-type Bytes = [u8; MESSAGE_BYTES];
+type Bytes = Vec<u8>;
 
 #[derive(Default)]
 struct Ledger {
@@ -74,7 +73,7 @@ impl Ledger {
     fn offered(&mut self, party: usize, guards: &[Guard]) -> Result<(), String> {
         for guard in guards.iter().filter(|guard| guard.sends()) {
             let way = (party, guard.partner, guard.kind);
-            self.sent.insert(message_bytes(guard.message()), way);
+            self.sent.insert(bytes(guard.message()), way);
         }
         match self.open.insert(party, guards.to_vec()) {
             None => Ok(()),
@@ -126,8 +125,8 @@ impl Ledger {
             return Err(format!("{party} collects {outcome:?} at {guard:?}"));
         }
         let (key, noted) = match guard.sends() {
-            true => (message_bytes(guard.message()), &mut self.gone),
-            false => (message_bytes(outcome.message), &mut self.received),
+            true => (bytes(guard.message()), &mut self.gone),
+            false => (bytes(outcome.message), &mut self.received),
         };
         if guard.sends() && outcome.message != Message::Nothing {
             return Err(format!("{party} sent and collects {outcome:?}"));
@@ -146,6 +145,12 @@ impl Ledger {
             false => Err(format!("{party} collects {outcome:?}, for the second time")),
         }
     }
+}
+
+fn bytes(message: Message) -> Bytes {
+    let mut bytes = Vec::new();
+    put_message(&mut bytes, message);
+    bytes
 }
 
 #[cfg(test)]

@@ -1,29 +1,22 @@
-//! The calls on a table in lent bytes, whoever answers them, and the comparison of
-//! one call with the model's.
+//! The calls on a table as bytes, whoever answers them, and the
+//! comparison of one call with the model's.
 
-use crate::left::{self, Reach};
-use crate::rendezvous::raw::{ANSWER_BYTES, TABLE_BYTES};
-use crate::wire::{one_nan, read_answer, Answered, Table};
-use model::{Action, Call, Desk, Given, Guard, Outcome, Refusal};
+use crate::rendezvous::{HEAD_MEETINGS, HEAD_NEXT, HEAD_WITHDRAWN};
+use crate::rendezvous::{RECORD_ACCEPTING, RECORD_COUNTS, RECORD_INDEX, RECORD_OWN};
+use crate::rendezvous::{RECORD_PLACE, RECORD_POSTED, RECORD_SIGNAL, RECORD_TICKET};
+use crate::wire::{decode, encode, normal, one_nan, Table};
+use model::{Action, Call, Desk, Given, Guard, Outcome, Refusal, Withdrawal};
 
-/// What stands in bytes before a call: no answer and no table is made of it.
-pub const FILL: u8 = 0xee;
-
-/// So many bytes are lent behind an answer's, and are to stay.
-pub const BEHIND_ANSWER: usize = 4;
-
-/// What a call says, or the number of its refusal; and the table that it leaves.
+/// What a call says, or the number of its refusal; and the table given back.
 #[derive(Clone, Debug, PartialEq, Eq)]
 pub struct Reply {
     pub answer: Result<Given, u8>,
     pub table: Table,
 }
 
-/// Who answers calls. Each works on a table in its place and writes its answer to the
-/// front of `answer`; where one of the two is too short it changes nothing and is false.
 pub trait Library: Sync {
-    fn create(&self, table: &mut [u8], n: u8, nap: u8, answer: &mut [u8]) -> bool;
-    fn call(&self, table: &mut [u8], call: &Call, answer: &mut [u8]) -> bool;
+    fn create(&self, n: u8, nap: u8) -> Result<Table, u8>;
+    fn call(&self, table: &Table, call: &Call) -> Reply;
 }
 
 /// What a run starts from: a fresh table of 2 to 32 processes, in which a nap is
@@ -39,11 +32,8 @@ impl Start {
         Desk::new(self.n, self.nap).expect("2 to 32 parties and a nap of at least one step")
     }
 
-    /// A fresh table, for most numbers of processes with some bytes behind it.
     pub fn table(self, library: &dyn Library) -> Result<Table, String> {
-        let behind = 7 * (self.n % 4);
-        let under = Table::of(vec![FILL; TABLE_BYTES + behind]);
-        let made = both_create(library, &under, self.n as u8, self.nap)?;
+        let made = library.create(self.n as u8, self.nap);
         made.map_err(|number| format!("`{}` is refused by {number}", self.line()))
     }
 
@@ -56,28 +46,33 @@ impl Start {
     }
 }
 
-/// Lends bytes for an answer and reads it; an error says what is wrong with it.
-fn answer_of(call: impl FnOnce(&mut [u8]) -> bool) -> Result<Answered, String> {
-    let mut lent = [FILL; ANSWER_BYTES + BEHIND_ANSWER];
-    if !call(&mut lent) {
-        return Err("the library finds a table or a buffer too short".to_string());
+/// The model behind bytes, to try the comparison on itself.
+pub struct Modelled;
+
+impl Library for Modelled {
+    fn create(&self, n: u8, nap: u8) -> Result<Table, u8> {
+        let desk = Desk::new(usize::from(n), nap).map_err(Refusal::number)?;
+        Ok(encode(&desk))
     }
-    match lent.split_first_chunk() {
-        Some((answer, &[FILL, FILL, FILL, FILL])) => read_answer(answer),
-        _ => Err("the library writes behind its answer".to_string()),
+
+    fn call(&self, table: &Table, call: &Call) -> Reply {
+        let mut desk = decode(table);
+        let answer = in_model(&mut desk, call);
+        let table = match changes(&answer) {
+            true => normal(&encode(&desk)),
+            false => normal(table),
+        };
+        Reply { answer, table }
     }
 }
 
-/// Makes a call on a table in its place.
-pub fn make(
-    library: &dyn Library,
-    table: &mut Table,
-    call: &Call,
-) -> Result<Result<Given, u8>, String> {
-    match answer_of(|answer| library.call(table.bytes_mut(), call, answer))? {
-        Answered::Given(given) => Ok(Ok(given)),
-        Answered::Refused(number) => Ok(Err(number)),
-        Answered::Made => Err("a call on a table answers that it made one".to_string()),
+/// True if a call with this answer changes the table.
+fn changes(answer: &Result<Given, u8>) -> bool {
+    match answer {
+        Ok(Given::Ticket(_) | Given::Outcome(_)) => true,
+        Ok(Given::Place(place)) => place.is_some(),
+        Ok(Given::Withdrawal(withdrawal)) => *withdrawal == Withdrawal::Withdrawn,
+        Ok(Given::Set(_)) | Err(_) => false,
     }
 }
 
@@ -94,57 +89,50 @@ pub fn in_model(desk: &mut Desk, call: &Call) -> Result<Given, u8> {
     }
 }
 
-/// Makes a call on both sides. `desk` is what `table` says and is moved along; the reply
-/// is the library's. An error says how the two differ, or which byte the library should
-/// have left alone.
+/// Makes a call on both sides. `desk` is what `table` says and is moved along;
+/// the reply is the library's. An error says how the two differ.
 pub fn both(
     library: &dyn Library,
     table: &Table,
     desk: &mut Desk,
     call: &Call,
 ) -> Result<Reply, String> {
-    let mut after = table.clone();
-    let answer = make(library, &mut after, call)?;
-    let reach = Reach::of(desk, call);
+    let reply = library.call(table, call);
     let expected = in_model(desk, call);
-    if answer != expected {
+    if reply.answer != expected {
+        let given = &reply.answer;
         return Err(format!(
-            "the library answers {answer:?}, the model {expected:?}"
+            "the library answers {given:?}, the model {expected:?}"
         ));
     }
-    match reach.changed(&expected).as_slice() {
-        [] => left::still(table, &after),
-        changed => left::change([table, &after], desk, call, changed),
+    match changes(&expected) {
+        false => same(&reply.table, &normal(table)),
+        true => same_change(&reply.table, &normal(&encode(desk)), table),
     }?;
-    let table = after;
-    Ok(Reply { answer, table })
+    Ok(reply)
 }
 
-/// Makes a fresh table in the place of another on both sides: it, or the number of the
-/// refusal. An error is as in `both`.
-pub fn both_create(
-    library: &dyn Library,
-    under: &Table,
-    n: u8,
-    nap: u8,
-) -> Result<Result<Table, u8>, String> {
-    let mut table = under.clone();
-    let answered = answer_of(|answer| library.create(table.bytes_mut(), n, nap, answer))?;
-    match (answered, Desk::new(usize::from(n), nap)) {
-        (Answered::Made, Ok(desk)) => {
-            left::fresh(under, &table, &desk)?;
-            Ok(Ok(table))
-        }
-        (Answered::Refused(number), Err(refusal)) if number == refusal.number() => {
-            left::still(under, &table)?;
-            Ok(Err(number))
-        }
-        (answered, expected) => {
-            let expected = expected.map(|_| "a desk").map_err(Refusal::number);
-            Err(format!(
-                "the library answers {answered:?}, the model {expected:?}"
-            ))
-        }
+/// Slots past the ends of lists may differ only where `before` had something
+/// in such slots: no rule reads them, and so none says what becomes of them.
+fn same_change(given: &Table, expected: &Table, before: &Table) -> Result<(), String> {
+    let blanked = |table: &Table| encode(&decode(table));
+    let had_slack = || blanked(before) != *before;
+    if given != expected && *given == normal(given) && had_slack() {
+        return same(&blanked(given), expected);
+    }
+    same(given, expected)
+}
+
+fn same(given: &Table, expected: &Table) -> Result<(), String> {
+    match given.first_difference(expected) {
+        None => Ok(()),
+        Some(place) => Err(format!(
+            "the table given back is not the model's: {place} (in the head: next ticket {HEAD_NEXT}, \
+             meetings {HEAD_MEETINGS}, withdrawn {HEAD_WITHDRAWN}; in a record: place {RECORD_PLACE}, \
+             index or steps at S {RECORD_INDEX}, signal {RECORD_SIGNAL}, ticket {RECORD_TICKET}, \
+             accepting {RECORD_ACCEPTING}, counts {RECORD_COUNTS}, own list {RECORD_OWN}, posted \
+             list {RECORD_POSTED})"
+        )),
     }
 }
 

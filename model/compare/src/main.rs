@@ -21,16 +21,12 @@ mod follow;
 mod fuzz;
 mod interleavings;
 mod ledger;
-mod left;
 mod library;
 mod mark;
 #[cfg(test)]
 mod miscounting;
-mod modelled;
 mod nan;
 mod naps;
-mod noise;
-mod oddness;
 mod pace;
 mod part;
 mod plans;
@@ -50,23 +46,17 @@ mod seen;
 #[cfg(test)]
 mod sessions;
 mod sheet;
-mod short;
 mod sorts;
 mod spoil;
 mod stress;
 mod sum;
 mod tally;
 mod totals;
-#[cfg(test)]
-mod untidy;
 mod wire;
-#[cfg(test)]
-mod wrapped;
 mod write;
 
 use arguments::{Arguments, Part, Task, PARTS};
-use library::Library;
-use modelled::Modelled;
+use library::{Library, Modelled};
 use part::{Budget, Verdict};
 use proved::Proved;
 use std::process::ExitCode;

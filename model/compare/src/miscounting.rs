@@ -1,8 +1,8 @@
 //! Libraries that err in the day sheet's totals, to try whether the parts find it.
 
-use crate::library::in_model;
-use crate::modelled::ByDesk;
+use crate::library::{Library, Modelled, Reply};
 use crate::sum;
+use crate::wire::{decode, encode, normal, Table};
 use model::{Call, Desk, Given, Party, Place, Ticket, Withdrawal};
 
 type Said = Result<Given, u8>;
@@ -53,13 +53,19 @@ fn withdraws(said: &Said) -> bool {
     *said == Ok(Given::Withdrawal(Withdrawal::Withdrawn))
 }
 
-impl ByDesk for Miscounts {
-    fn call_on(&self, desk: &mut Desk, call: &Call) -> Said {
-        let said = in_model(desk, call);
-        if (self.at)(&said) {
-            (self.totals)(desk);
+impl Library for Miscounts {
+    fn create(&self, n: u8, nap: u8) -> Result<Table, u8> {
+        Modelled.create(n, nap)
+    }
+
+    fn call(&self, table: &Table, call: &Call) -> Reply {
+        let mut reply = Modelled.call(table, call);
+        if (self.at)(&reply.answer) {
+            let mut desk = decode(&reply.table);
+            (self.totals)(&mut desk);
+            reply.table = normal(&encode(&desk));
         }
-        said
+        reply
     }
 }
 
@@ -91,26 +97,39 @@ fn waits_no_more(record: &Party) -> bool {
     matches!(record.place, Place::Showing | Place::Waiting) && record.wake_count != 0
 }
 
-impl ByDesk for OtherSum {
-    fn call_on(&self, desk: &mut Desk, call: &Call) -> Said {
+impl Library for OtherSum {
+    fn create(&self, n: u8, nap: u8) -> Result<Table, u8> {
+        Modelled.create(n, nap)
+    }
+
+    fn call(&self, table: &Table, call: &Call) -> Reply {
+        let desk = decode(table);
         let next = u128::from(desk.next_ticket.0);
-        let (above, other) = (sum::of_desk(desk) > next, (self.0)(desk) > next);
+        let (above, other) = (sum::of_desk(&desk) > next, (self.0)(&desk) > next);
         match (above, other) {
             (true, false) => without_sum(desk, call),
-            (false, true) => Err(7),
-            _ => in_model(desk, call),
+            (false, true) => Reply {
+                answer: Err(7),
+                table: normal(table),
+            },
+            _ => Modelled.call(table, call),
         }
     }
 }
 
 /// The call as it would be made if no sum were looked at.
-fn without_sum(desk: &mut Desk, call: &Call) -> Said {
-    let (next, meetings, withdrawn) = (desk.next_ticket, desk.meetings, desk.withdrawn);
-    desk.next_ticket = Ticket(u32::MAX - 1);
-    (desk.meetings, desk.withdrawn) = (0, 0);
-    let said = in_model(desk, call);
-    desk.next_ticket = next;
-    desk.meetings = desk.meetings.wrapping_add(meetings);
-    desk.withdrawn = desk.withdrawn.wrapping_add(withdrawn);
-    said
+fn without_sum(desk: Desk, call: &Call) -> Reply {
+    let roomy = Desk {
+        next_ticket: Ticket(u32::MAX - 1),
+        meetings: 0,
+        withdrawn: 0,
+        ..desk.clone()
+    };
+    let Reply { answer, table } = Modelled.call(&encode(&roomy), call);
+    let mut after = decode(&table);
+    after.next_ticket = desk.next_ticket;
+    after.meetings = after.meetings.wrapping_add(desk.meetings);
+    after.withdrawn = after.withdrawn.wrapping_add(desk.withdrawn);
+    let table = normal(&encode(&after));
+    Reply { answer, table }
 }

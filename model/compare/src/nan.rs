@@ -5,7 +5,7 @@
 use crate::draw::NANS;
 use crate::part::{Budget, Finding, Verdict};
 use crate::random::Random;
-use crate::rendezvous::raw::{high_through, low_through, reading_through};
+use crate::rendezvous::{high_through, low_through, reading_through};
 
 /// Further patterns, drawn at random.
 const RANDOM_NANS: usize = 10_000;

@@ -3,7 +3,7 @@
 
 use crate::draw::{self, message, ByteOf, NAN_IN};
 use crate::random::Random;
-use crate::rendezvous::raw::GUARDS;
+use crate::rendezvous::GUARDS;
 use model::{Action, Guard, Party, Place};
 
 /// Lets some partners of parties at T accept, with guards that match, and with such

@@ -236,10 +236,9 @@ mod tests {
     use super::*;
     use crate::erring::{Erring, OtherNap, ScansByRank, ERRORS, NAP_ERRORS};
     use crate::erring::{KIND_BLIND, RANK_ERRORS};
-    use crate::library::in_model;
+    use crate::library::{Modelled, Reply};
     use crate::miscounting::MISCOUNTS;
-    use crate::modelled::{ByDesk, Modelled};
-    use crate::untidy::{SEEN_IN_RUNS, UNTIDY};
+    use crate::wire::Table;
     use model::Message;
     use std::time::Duration;
 
@@ -260,10 +259,14 @@ mod tests {
     /// The model, but a collected limit has its halves exchanged.
     struct Exchanged;
 
-    impl ByDesk for Exchanged {
-        fn call_on(&self, desk: &mut Desk, call: &Call) -> Result<Given, u8> {
-            let mut said = in_model(desk, call);
-            if let Ok(Given::Outcome(outcome)) = &mut said {
+    impl Library for Exchanged {
+        fn create(&self, n: u8, nap: u8) -> Result<Table, u8> {
+            Modelled.create(n, nap)
+        }
+
+        fn call(&self, table: &Table, call: &Call) -> Reply {
+            let mut reply = Modelled.call(table, call);
+            if let Ok(Given::Outcome(outcome)) = &mut reply.answer {
                 if let Message::Limit { low, high } = outcome.message {
                     outcome.message = Message::Limit {
                         low: high,
@@ -271,7 +274,7 @@ mod tests {
                     };
                 }
             }
-            said
+            reply
         }
     }
 
@@ -289,15 +292,6 @@ mod tests {
             let found = (31..62).find_map(|seed| one_run(&library, seed).err());
             let text = found.expect("a difference").text;
             assert!(text.contains("\nw ") && text.lines().count() < 25, "{text}");
-        }
-    }
-
-    #[test]
-    fn untidy_libraries_are_found() {
-        for library in &UNTIDY[..SEEN_IN_RUNS] {
-            let found = (31..62).find_map(|seed| one_run(library, seed).err());
-            let text = found.expect("a difference").text;
-            assert!(text.lines().count() < 25, "{text}");
         }
     }
 

@@ -6,7 +6,7 @@
 use crate::draw;
 use crate::follow::{told, Follow};
 use crate::ledger::{self, Ends, History};
-use crate::library::{line, make, Library, Start};
+use crate::library::{Library, Start};
 use crate::naps::{Naps, WITHIN};
 use crate::part::{Budget, Finding, Verdict};
 use crate::random::Random;
@@ -75,14 +75,13 @@ impl Lock {
 }
 
 impl Shared {
-    /// A call on the table in its place.
     fn call(&mut self, library: &dyn Library, call: Call, thread: usize) -> Result<Given, u8> {
-        let answer = make(library, &mut self.table, &call);
-        let answer = answer.unwrap_or_else(|text| panic!("{}: {text}", line(&call)));
-        self.history.push((call, answer));
+        let reply = library.call(&self.table, &call);
+        self.table = reply.table;
+        self.history.push((call, reply.answer));
         self.switches += u64::from(self.last != thread);
         self.last = thread;
-        answer
+        reply.answer
     }
 }
 
@@ -325,7 +324,7 @@ fn check(
 #[cfg(test)]
 mod tests {
     use super::*;
-    use crate::modelled::Modelled;
+    use crate::library::Modelled;
 
     #[test]
     fn the_model_stands_the_stress() {

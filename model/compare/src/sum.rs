@@ -1,9 +1,9 @@
 //! 2 × meetings + withdrawn + open, over the integers: of a desk, and of the bytes of a
 //! table.
 
-use crate::rendezvous::raw;
-use crate::rendezvous::raw::{HEAD_COUNT, PROCESSES, RECORD_ACCEPTING, RECORD_PLACE};
-use crate::wire::{record_of, Table};
+use crate::rendezvous::{self, HEAD_BYTES, HEAD_COUNT, PROCESSES};
+use crate::rendezvous::{RECORD_ACCEPTING, RECORD_BYTES, RECORD_PLACE};
+use crate::wire::Table;
 use model::Desk;
 
 pub fn of_desk(desk: &Desk) -> u128 {
@@ -13,15 +13,15 @@ pub fn of_desk(desk: &Desk) -> u128 {
 /// The same by the readers that the library comes with, and by the bytes of the records.
 pub fn of_table(table: &Table) -> u128 {
     let bytes = table.bytes();
-    let meetings = u128::from(raw::meetings(bytes));
-    let withdrawn = u128::from(raw::withdrawn(bytes));
+    let meetings = u128::from(rendezvous::meetings(bytes));
+    let withdrawn = u128::from(rendezvous::withdrawn(bytes));
     2 * meetings + withdrawn + open_in(table) as u128
 }
 
 /// How many processes of a table have an open offer.
 fn open_in(table: &Table) -> usize {
     let n = usize::from(table.bytes()[HEAD_COUNT]).min(PROCESSES);
-    let records = (0..n).map(|number| record_of(table.bytes(), number));
+    let records = table.part(n)[HEAD_BYTES..].chunks(RECORD_BYTES);
     records.filter(|record| is_open(record)).count()
 }
 
@@ -38,16 +38,15 @@ fn is_open(record: &[u8]) -> bool {
 mod tests {
     use super::*;
     use crate::damage;
-    use crate::noise;
     use crate::random::Random;
+    use crate::wire::encode;
 
     #[test]
     fn bytes_and_desks_have_the_same_sum() {
         let mut random = Random::new(6);
         for _ in 0..2000 {
             let desk = damage::any_desk(&mut random);
-            let table = noise::rough(&mut random, &desk);
-            assert_eq!(of_table(&table), of_desk(&desk));
+            assert_eq!(of_table(&encode(&desk)), of_desk(&desk));
         }
     }
 

@@ -1,14 +1,12 @@
 //! How often each refusal, each rule, each withdrawal, each case that kinds, ranks or
-//! naps decide, each odd case and each with odd bytes was hit.
+//! naps decide and each odd case was hit.
 
 use crate::damage::{Point, POINTS};
 use crate::draw::{kind_of, rank_of, ByteOf};
 use crate::fit::{fit, kept, search, Search};
 use crate::library::Reply;
 use crate::naps;
-use crate::oddness;
 use crate::ranks;
-use crate::wire::Table;
 use model::{Answer, Call, Desk, Given, Guard, Party, Place, Withdrawal};
 use std::collections::BTreeMap;
 
@@ -74,8 +72,6 @@ const CASES: [&str; 18] = [
 
 pub struct Tally {
     pub calls: u64,
-    /// Calls with too few bytes.
-    pub short_calls: u64,
     counts: BTreeMap<String, u64>,
 }
 
@@ -85,14 +81,12 @@ impl Tally {
         let refusals = REFUSALS.iter().map(|&number| refusal_name(number));
         let rules = (1..=15).map(rule_name);
         let cases = CASES.iter().chain(&ranks::SHOWN).chain(&naps::SHOWN);
-        let cases = cases.chain(&oddness::SHOWN);
         let cases = cases.map(|name| name.to_string());
         let points = POINTS.iter().map(point_name);
         let names = refusals.chain(rules).chain(cases).chain(points);
         let names = names.chain(withdrawals());
         Tally {
             calls: 0,
-            short_calls: 0,
             counts: names.map(|name| (name, 0)).collect(),
         }
     }
@@ -115,13 +109,6 @@ impl Tally {
                     self.hit(name.to_string());
                 }
             }
-        }
-    }
-
-    /// Notes a call on the table as it was before, which says this desk.
-    pub fn bytes(&mut self, table: &Table, desk: &Desk, call: &Call, reply: &Reply) {
-        for name in oddness::shown(table, desk, call, &reply.answer) {
-            self.hit(name.to_string());
         }
     }
 

@@ -4,12 +4,11 @@ use crate::balance::{commits, next, shown, SHOWN, THEN_7};
 use crate::damaged::told;
 use crate::edges::{layout, nexts, shapes, totals, Shape};
 use crate::library::{both, Library, Reply};
-use crate::noise;
 use crate::part::{Budget, Finding, Verdict};
 use crate::random::Random;
 use crate::seen::Seen;
 use crate::sum;
-use crate::wire::Table;
+use crate::wire::{encode, Table};
 use model::{Call, Desk, Place, Ticket};
 use std::time::Instant;
 
@@ -80,7 +79,7 @@ impl Totals<'_> {
 
     fn every_call(&mut self, random: &mut Random, desk: &Desk) -> Result<(), String> {
         self.desks += 1;
-        let table = noise::rough(random, desk);
+        let table = encode(desk);
         self.call(&table, desk, &Call::Movers)?;
         for party in callers(random, desk) {
             let guards = desk.parties[party].guards.clone();
@@ -143,8 +142,8 @@ fn callers(random: &mut Random, desk: &Desk) -> Vec<usize> {
 #[cfg(test)]
 mod tests {
     use super::*;
+    use crate::library::Modelled;
     use crate::miscounting::{MISCOUNTS, OTHER_SUMS};
-    use crate::modelled::Modelled;
     use std::time::Duration;
 
     const ONCE: Budget = Budget {

@@ -1,63 +1,21 @@
-use Rattle.exports.specs.Answers.{is_table}
-use mathlib.Core.Path.{sym, ◌∙◌}
-use borrow.Author.Tests.{not-true, not-false, leb-true}
-use Rattle.alternative.proofs.Tests.{and_parts}
-use Rattle.exports.proofs.Giving.{left-nothing, left-whole}
 use borrow.Author.Rules.{rules}
 use Rattle.exports.proofs.rendezvous_collect.Statement.{statement}
 use Rattle.exports.proofs.rendezvous_collect.Tie as tie
-use Rattle.exports.proofs.rendezvous_collect.Reads as reads
-use Rattle.exports.proofs.rendezvous_collect.Lts as lts
-use Rattle.exports.proofs.answers.are_lent.Reads as are-lent-reads
-use Rattle.exports.proofs.answers.put_answer.Reads as put-answer-reads
-use Rattle.inplace.proofs.collect_in.Reads as collect-in-reads
 
--- src/lib.rt:90:9
-are-lent-requires : tie.Need-are-lent-requires
-are-lent-requires c κs = search rules
-
--- src/lib.rt:91:9
-same_length : tie.Need-same-length
-same_length c = search rules
-
--- src/lib.rt:91:9
-same-length-2 : tie.Need-same-length-2
-same-length-2 c = search rules
-
--- src/lib.rt:91:9
 returns : tie.Need-returns
-returns c = left-nothing _ c.before.before.before.before.before.before.args.table.now c.before.before.before.before.before.before.args.answer.now _ (sym c.before.are-lent.ensures ∙ not-true _ c.if1.true)
-
--- src/lib.rt:93:9
-collect-in-requires : tie.Need-collect-in-requires
-collect-in-requires c κs = leb-true _ _ (and_parts _ _ (sym c.before.before.are-lent.ensures ∙ not-false _ c.before.if1.false)).0
-
--- src/lib.rt:94:5
-put-answer-requires : tie.Need-put-answer-requires
-put-answer-requires c κs = (and_parts (is_table c.before.before.before.before.before.before.before.before.before.before.before.args.table.now) _ (sym c.before.before.before.before.before.before.are-lent.ensures ∙ not-false _ c.before.before.before.before.before.if1.false)).1
-
--- src/lib.rt:86:1
-same-length-3 : tie.Need-same-length-3
-same-length-3 c = search rules
-
--- src/lib.rt:86:1
-same-length-4 : tie.Need-same-length-4
-same-length-4 c = search rules
-
--- src/lib.rt:86:1
-returns-2 : tie.Need-returns-2
-returns-2 c = left-whole _ c.before.before.before.before.before.before.before.before.before.before.before.before.before.before.args.table.now c.before.before.before.before.before.before.before.before.before.before.before.before.before.before.args.answer.now _ _ _ _ (sym c.before.before.before.before.before.before.before.before.before.are-lent.ensures ∙ not-false _ c.before.before.before.before.before.before.before.before.if1.false) c.before.before.before.before.before.before.collect-in.ensures c.before.before.put-answer.ensures
+returns c =
+    let g = c.before.before.before.before in
+    let r = g.before.before.before in
+    rw (r.collect.ensures, r.before.decode.ensures, r.before.before.is-table.ensures) at g.give.ensures
 
 pub rendezvous_collect_spec : {M : Type 1} → statement M
 rendezvous_collect_spec =
     tie.close
     (tie.spec
-    are-lent-requires
-    same_length
-    same-length-2
-    returns
-    collect-in-requires
-    put-answer-requires
-    same-length-3
-    same-length-4
-    returns-2)
+    (λ c κs. search rules)
+    (λ c κs. search rules)
+    (λ c κs. search rules)
+    (λ c κs. search rules)
+    (λ c. search rules)
+    (λ c. search rules)
+    returns)

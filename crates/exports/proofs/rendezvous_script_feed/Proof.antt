@@ -1,10 +1,9 @@
-use mathlib.Core.Path.{◌≡◌, refl, sym, ◌∙◌}
-use mathlib.Core.Bool.{true, ◌&&◌, false≢true}
+use mathlib.Core.Path.{refl, sym, ◌∙◌}
+use mathlib.Core.Bool.{◌&&◌, false≢true}
 use borrow.Author.Rules.{rules}
-use borrow.Author.Tests.{leb-true, not-true, not-false}
+use borrow.Author.Tests.{not-true, not-false}
 use Rattle.alternative.proofs.Tests.{and_parts}
 use Rattle.script.specs.Feeding.{fed}
-use Rattle.exports.specs.Layout.{session_length}
 use Rattle.exports.specs.Scripts.{is_session}
 use Rattle.exports.proofs.Sessions.{stored-read}
 use Rattle.exports.proofs.rendezvous_script_feed.Statement.{statement}
@@ -23,23 +22,15 @@ returns c =
       keeps = record { enough = sym e; read_back = λ y. absurd (false≢true y); behind = refl; short = λ n. refl };
     }
 
--- both sessions are long enough
-both : (c : tie.Else1) → let a = c.before.before.before.before.before.before.before.before.args in (is_session a.state.now ≡ true) × (is_session a.after.now ≡ true)
-both c =
-    let one = c.before.before.before.is-session in
-    let two = c.before.is-session2 in
-    and_parts _ _ (rw (one.ensures, two.ensures) at (not-false (one.result && two.result) c.if1.false))
-
-session-in-requires : tie.Need-session-in-requires
-session-in-requires c κs = leb-true session_length _ (both c).0
-
 returns-2 : tie.Need-returns-2
 returns-2 c =
     let p = c.before.before in
     let f = p.before.before.before.before.before in
     let i = f.before.before.before in
     let a = i.before.before.before.before.before.before.before.before.args in
-    let w = both i in
+    let one = i.before.before.before.is-session in
+    let two = i.before.is-session2 in
+    let w = and_parts (is_session a.state.now) (is_session a.after.now) (rw (one.ensures, two.ensures) at (not-false (one.result && two.result) i.if1.false)) in
     let s = f.before.before.session-in.ensures in
     let e = f.feed.ensures in
     let k = rw (e.1.1.0, s) at p.put-session.ensures in
@@ -59,7 +50,7 @@ rendezvous_script_feed_spec =
     (λ c κs. search rules)
     (λ c. search rules)
     returns
-    session-in-requires
+    (λ c κs. search rules)
     (λ c κs. search rules)
     (λ c κs. search rules)
     (λ c. search rules)

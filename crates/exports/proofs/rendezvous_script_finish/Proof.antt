@@ -1,7 +1,6 @@
 use mathlib.Core.Path.{refl, sym, ◌∙◌}
 use borrow.Author.Rules.{rules}
-use borrow.Author.Tests.{leb-true, not-true, not-false}
-use Rattle.exports.specs.Layout.{session_length}
+use borrow.Author.Tests.{not-true, not-false}
 use Rattle.exports.proofs.rendezvous_script_finish.Statement.{statement}
 use Rattle.exports.proofs.rendezvous_script_finish.Tie as tie
 
@@ -9,9 +8,6 @@ returns : tie.Need-returns
 returns c =
     let short = sym c.before.is-session.ensures ∙ not-true _ c.if1.true in
     record { fills = rw short refl; prints = refl }
-
-session-in-requires : tie.Need-session-in-requires
-session-in-requires c κs = leb-true session_length _ (sym c.before.is-session.ensures ∙ not-false _ c.if1.false)
 
 returns-2 : tie.Need-returns-2
 returns-2 c =
@@ -29,7 +25,7 @@ rendezvous_script_finish_spec =
     (tie.spec
     (λ c κs. search rules)
     returns
-    session-in-requires
+    (λ c κs. search rules)
     (λ c κs. search rules)
     (λ c κs. search rules)
     (λ c. search rules)

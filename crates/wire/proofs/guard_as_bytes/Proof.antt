@@ -1,12 +1,13 @@
 -- By computation.
 use mathlib.Core.Path.{refl}
 use Rattle.wire.specs.Reading.{word_of, message_of, action_of, guard_of}
+use Rattle.wire.specs.Writing.{word_bytes, message_bytes, action_bytes, guard_bytes}
 use Rattle.wire.proofs.guard_as_bytes.Statement.{statement}
 use Rattle.wire.proofs.guard_as_bytes.Tie as tie
 
 returns : tie.Need-returns
-unfolding word_of message_of action_of guard_of
-returns c = refl
+unfolding word_of message_of action_of guard_of word_bytes message_bytes action_bytes guard_bytes
+returns c = (refl, refl)
 
 pub guard_as_bytes_spec : {M : Type 1} → statement M
 guard_as_bytes_spec = tie.close (tie.spec returns)

@@ -1,53 +1,31 @@
-//! One way of writing for all bytes that say the same.
+//! Any bytes as the library writes them.
 
-use super::reading::read_record;
-use super::record::{Record, Slots};
-use super::table::record_of;
-use super::writing::put_record;
-use crate::rendezvous::raw::{HEAD_BYTES, HEAD_NAP, HEAD_NEXT, HEAD_WITHDRAWN};
-use crate::rendezvous::raw::{LONG_BYTES, RECORD_BYTES};
+use super::reading::{guard, place, signal, Reader};
+use super::table::Table;
+use super::writing::{put_guard, put_place, put_signal};
+use crate::rendezvous::{GUARDS, HEAD_BYTES, PROCESSES, TABLE_BYTES, WORD_BYTES};
 use model::{Action, Guard, IndexedMessage, Message, Place};
 
-/// The head and the records below `n`, with zeros where nothing is said, known tags, 0
-/// and 1 for flags, and one NaN. Slots past the ends of lists are kept.
-pub fn normal(table: &[u8], n: usize) -> Vec<u8> {
-    let mut bytes = normal_head(table).to_vec();
-    for number in 0..n {
-        bytes.extend(normal_record(record_of(table, number)));
+/// The same table as the library writes it: known tags, zeros where nothing is
+/// said, and one NaN. Slots past a list's end are kept.
+pub fn normal(table: &Table) -> Table {
+    let mut input = Reader(table.bytes());
+    let mut out = Vec::with_capacity(TABLE_BYTES);
+    out.extend((0..HEAD_BYTES).map(|_| input.byte()));
+    for _ in 0..PROCESSES {
+        put_place(&mut out, one_nan_at(place(&mut input)));
+        put_signal(&mut out, signal(&mut input).map(one_nan_in));
+        out.extend((0..WORD_BYTES).map(|_| input.byte()));
+        out.push(u8::from(input.flag()));
+        out.extend([input.byte(), input.byte()]);
+        for _ in 0..2 * GUARDS {
+            put_guard(&mut out, &one_nan_of(guard(&mut input)));
+        }
     }
-    bytes
+    Table::of(out)
 }
 
-pub fn normal_head(table: &[u8]) -> [u8; HEAD_BYTES] {
-    let mut head = [0; HEAD_BYTES];
-    head.copy_from_slice(&table[..HEAD_BYTES]);
-    head[HEAD_NAP + 1..HEAD_NEXT].fill(0);
-    head[HEAD_WITHDRAWN + LONG_BYTES..].fill(0);
-    head
-}
-
-pub fn normal_record(record: &[u8]) -> [u8; RECORD_BYTES] {
-    let mut bytes = [0; RECORD_BYTES];
-    put_record(&mut bytes, &with_one_nan(read_record(record)));
-    bytes
-}
-
-/// The record with its NaNs written in one way.
-pub fn with_one_nan(record: Record) -> Record {
-    let slots = |slots: Slots| slots.map(one_nan_of);
-    Record {
-        place: match record.place {
-            Place::Met(outcome) => Place::Met(one_nan_in(outcome)),
-            other => other,
-        },
-        signal: record.signal.map(one_nan_in),
-        own: slots(record.own),
-        posted: slots(record.posted),
-        ..record
-    }
-}
-
-/// The message with its NaNs written in the one way that the library has for answers.
+/// The message with its NaNs written in the one way that the library has.
 pub fn one_nan(message: Message) -> Message {
     let one = |value: f32| match value.is_nan() {
         true => f32::from_bits(0x7fc0_0000),
@@ -70,6 +48,13 @@ fn one_nan_in(indexed: IndexedMessage) -> IndexedMessage {
     }
 }
 
+fn one_nan_at(place: Place) -> Place {
+    match place {
+        Place::Met(outcome) => Place::Met(one_nan_in(outcome)),
+        other => other,
+    }
+}
+
 fn one_nan_of(guard: Guard) -> Guard {
     let action = match guard.action {
         Action::Receive => Action::Receive,
@@ -80,63 +65,83 @@ fn one_nan_of(guard: Guard) -> Guard {
 
 #[cfg(test)]
 mod tests {
-    use super::super::{decode, encode, encode_over};
+    use super::super::{decode, encode};
     use super::*;
-    use crate::damage;
-    use crate::noise;
-    use crate::random::Random;
-    use crate::rendezvous::raw::{PROCESSES, RECORD_INDEX, RECORD_KEPT, RECORD_PLACE};
+    use crate::rendezvous::{GUARD_ENABLED, GUARD_KIND, GUARD_RANK, HEAD_MEETINGS, HEAD_NAP};
+    use crate::rendezvous::{HEAD_WITHDRAWN, RECORD_INDEX, RECORD_KEPT, RECORD_OUTCOME};
+    use crate::rendezvous::{RECORD_OWN, RECORD_PLACE};
     use model::Desk;
 
     #[test]
-    fn plain_bytes_are_normal_but_for_their_nans() {
+    fn what_is_written_is_normal_but_for_its_nans() {
         let mut desk = Desk::new(2, 1).expect("both are good numbers");
-        let mut met_with = |bits| {
-            let message = Message::Reading(f32::from_bits(bits));
-            desk.parties[0].place = Place::Met(IndexedMessage { index: 0, message });
-            encode(&desk)
+        desk.parties[0].place = Place::Met(IndexedMessage {
+            index: 0,
+            message: Message::Reading(f32::from_bits(0xff80_0001)),
+        });
+        let normal_table = normal(&encode(&desk));
+        desk.parties[0].place = Place::Met(IndexedMessage {
+            index: 0,
+            message: Message::Reading(f32::from_bits(0x7fc0_0000)),
+        });
+        assert_eq!(normal_table, encode(&desk));
+        assert_eq!(normal(&normal_table), normal_table);
+    }
+
+    #[test]
+    fn an_unknown_tag_counts_as_the_last() {
+        let mut table = Table::zero();
+        table.bytes_mut()[HEAD_BYTES + RECORD_PLACE] = 11;
+        table.bytes_mut()[HEAD_BYTES + RECORD_OUTCOME] = 200;
+        let record = &decode(&table).parties[0];
+        let nothing_but_zeros = Message::Limit {
+            low: 0.0,
+            high: 0.0,
         };
-        let (odd, plain) = (met_with(0xff80_0001), met_with(0x7fc0_0000));
-        assert_eq!(normal(odd.bytes(), PROCESSES), plain.bytes());
-        assert_eq!(normal(plain.bytes(), PROCESSES), plain.bytes());
+        let outcome = IndexedMessage {
+            index: 0,
+            message: nothing_but_zeros,
+        };
+        assert_eq!(record.place, Place::Met(outcome));
+        assert_eq!(normal(&table).bytes()[HEAD_BYTES..][..4], [10, 0, 0, 3]);
     }
 
     #[test]
-    fn what_says_the_same_becomes_the_same() {
-        let mut random = Random::new(3);
-        for _ in 0..500 {
-            let mut desk = damage::any_desk(&mut random);
-            // Slots past the ends of lists are told apart: here no list has any.
-            for party in &mut desk.parties {
-                party.guards.resize(8, super::super::BLANK);
-                party.posted.resize(8, super::super::BLANK);
-            }
-            let odd = encode_over(&desk, &noise::noise(&mut random));
-            let plain = normal(encode(&desk).bytes(), PROCESSES);
-            assert_eq!(normal(odd.bytes(), PROCESSES), plain);
-            assert_eq!(decode(odd.bytes()), desk);
+    fn naps_and_steps_of_sleepers_are_kept_whatever_they_are() {
+        for (nap, steps) in [(0, 0), (0, 255), (1, 1), (255, 254), (255, 255)] {
+            let mut table = Table::zero();
+            table.bytes_mut()[HEAD_NAP] = nap;
+            let record = &mut table.bytes_mut()[HEAD_BYTES..];
+            record[RECORD_PLACE] = 8;
+            record[RECORD_INDEX] = steps;
+            assert_eq!(decode(&table).nap, nap);
+            assert_eq!(decode(&table).parties[0].place, Place::Asleep(steps));
+            assert_eq!(normal(&table), table);
+            // Only C has a kept index.
+            table.bytes_mut()[HEAD_BYTES + RECORD_KEPT] = 1;
+            assert_eq!(normal(&table).bytes()[HEAD_BYTES + RECORD_KEPT], 0);
         }
     }
 
     #[test]
-    fn only_a_place_with_an_index_keeps_it() {
-        for (place, index, kept) in [(0, 0, 0), (2, 9, 0), (4, 9, 7), (8, 9, 0), (9, 0, 0)] {
-            let mut record = [0; RECORD_BYTES];
-            record[RECORD_PLACE] = place;
-            record[RECORD_INDEX] = 9;
-            record[RECORD_KEPT] = 7;
-            let expected = [place, index, kept];
-            assert_eq!(normal_record(&record)[..3], expected);
+    fn totals_are_kept_whatever_they_are() {
+        for total in [0, 1, 1 << 32, 1 << 63, u64::MAX] {
+            let mut table = Table::zero();
+            table.bytes_mut()[HEAD_MEETINGS..HEAD_WITHDRAWN].copy_from_slice(&total.to_le_bytes());
+            table.bytes_mut()[HEAD_WITHDRAWN..HEAD_BYTES].copy_from_slice(&(!total).to_le_bytes());
+            let desk = decode(&table);
+            assert_eq!((desk.meetings, desk.withdrawn), (total, !total));
+            assert_eq!(normal(&table), table);
         }
     }
 
     #[test]
-    fn slots_past_a_lists_end_are_kept() {
-        // Flags of four sending guards, and kinds.
-        let mut record = [0; RECORD_BYTES];
-        record[60..70].fill(9);
-        let mut expected = record;
-        expected[60..64].fill(1);
-        assert_eq!(normal_record(&record), expected);
+    fn slots_past_a_lists_end_are_kept_but_not_read() {
+        let mut table = Table::zero();
+        table.bytes_mut()[HEAD_BYTES + RECORD_OWN + GUARD_ENABLED] = 1;
+        table.bytes_mut()[HEAD_BYTES + RECORD_OWN + GUARD_KIND] = 255;
+        table.bytes_mut()[HEAD_BYTES + RECORD_OWN + GUARD_RANK] = 255;
+        assert!(decode(&table).parties[0].guards.is_empty());
+        assert_eq!(normal(&table), table);
     }
 }

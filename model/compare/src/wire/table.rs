@@ -1,143 +1,87 @@
-//! The bytes that a call is lent, and where the parts of a table lie in them.
+//! The bytes of a table, and where its parts lie in them.
 
-use crate::rendezvous::raw::{HEAD_BYTES, HEAD_COUNT, HEAD_MEETINGS, HEAD_NAP, HEAD_NEXT};
-use crate::rendezvous::raw::{HEAD_WITHDRAWN, LONG_BYTES, MESSAGE_BYTES, RECORD_ACCEPTING};
-use crate::rendezvous::raw::{RECORD_BYTES, RECORD_INDEX, RECORD_KEPT, RECORD_OUTCOME};
-use crate::rendezvous::raw::{RECORD_OWN, RECORD_OWN_COUNT, RECORD_OWN_PARTNERS, RECORD_PLACE};
-use crate::rendezvous::raw::{RECORD_POSTED, RECORD_POSTED_COUNT, RECORD_POSTED_PARTNERS};
-use crate::rendezvous::raw::{RECORD_SIGNAL, RECORD_SIGNAL_INDEX, RECORD_SIGNAL_MESSAGE};
-use crate::rendezvous::raw::{RECORD_TICKET, TABLE_BYTES};
+use crate::rendezvous::{GUARDS, GUARD_BYTES, LIST_BYTES};
+use crate::rendezvous::{HEAD_BYTES, RECORD_BYTES, RECORD_OWN, RECORD_POSTED, TABLE_BYTES};
+use model::{Action, Guard};
 
-/// Where each part of a head begins.
-const IN_HEAD: [(usize, &str); 7] = [
-    (HEAD_COUNT, "number of processes"),
-    (HEAD_NAP, "nap"),
-    (HEAD_NAP + 1, "without use"),
-    (HEAD_NEXT, "next ticket"),
-    (HEAD_MEETINGS, "meetings"),
-    (HEAD_WITHDRAWN, "withdrawn"),
-    (HEAD_WITHDRAWN + LONG_BYTES, "without use"),
-];
+/// What stands in a slot past a list's end.
+pub const BLANK: Guard = Guard {
+    enabled: false,
+    partner: 0,
+    kind: 0,
+    rank: 0,
+    action: Action::Receive,
+};
 
-/// Where each part of a record begins.
-const IN_RECORD: [(usize, &str); 16] = [
-    (RECORD_PLACE, "place"),
-    (RECORD_INDEX, "index or steps"),
-    (RECORD_KEPT, "kept index"),
-    (RECORD_SIGNAL, "signal"),
-    (RECORD_SIGNAL_INDEX, "signal's index"),
-    (RECORD_OWN_COUNT, "own count"),
-    (RECORD_POSTED_COUNT, "posted count"),
-    (RECORD_ACCEPTING, "accepting"),
-    (RECORD_OWN_PARTNERS, "own partners"),
-    (RECORD_POSTED_PARTNERS, "posted partners"),
-    (RECORD_TICKET, "ticket"),
-    (RECORD_OUTCOME, "outcome's message"),
-    (RECORD_SIGNAL_MESSAGE, "signal's message"),
-    (RECORD_SIGNAL_MESSAGE + MESSAGE_BYTES, "without use"),
-    (RECORD_OWN, "rest of the own list"),
-    (RECORD_POSTED, "rest of the posted list"),
-];
-
-/// The bytes that a call is lent: those of a table, and what stands behind it.
+/// The bytes of a table: always `TABLE_BYTES` of them.
 #[derive(Clone, Debug, PartialEq, Eq)]
-pub struct Table(Vec<u8>);
+pub struct Table(Box<[u8; TABLE_BYTES]>);
 
 impl Table {
     pub fn zero() -> Table {
-        Table(vec![0; TABLE_BYTES])
+        Table(Box::new([0; TABLE_BYTES]))
     }
 
-    /// There must be at least `TABLE_BYTES` of them.
+    /// The table that these bytes are; there must be `TABLE_BYTES` of them.
     pub fn of(bytes: Vec<u8>) -> Table {
-        assert!(bytes.len() >= TABLE_BYTES, "the bytes of a whole table");
-        Table(bytes)
+        Table(bytes.try_into().expect("the bytes of a whole table"))
     }
 
     pub fn bytes(&self) -> &[u8] {
-        &self.0
+        &self.0[..]
     }
 
     pub fn bytes_mut(&mut self) -> &mut [u8] {
-        &mut self.0
+        &mut self.0[..]
     }
 
-    /// What stands behind the table.
-    pub fn behind(&self) -> &[u8] {
-        &self.0[TABLE_BYTES..]
+    /// The bytes that speak of the processes below `n`.
+    pub fn part(&self, n: usize) -> &[u8] {
+        &self.0[..HEAD_BYTES + n * RECORD_BYTES]
     }
 
-    /// The first byte that is not as expected, in words. Both are lent the same number of
-    /// bytes.
-    pub fn first_difference(&self, expected: &Table) -> Option<String> {
-        assert_eq!(self.0.len(), expected.0.len());
-        // Whole tables are compared faster than byte by byte.
-        if self == expected {
-            return None;
-        }
-        let mut pairs = self.0.iter().zip(&expected.0);
-        let at = pairs.position(|(one, other)| one != other)?;
-        let (name, is, should) = (name(at), self.0[at], expected.0[at]);
-        Some(format!("{name} is {is}, not {should}"))
+    /// Where the slots past the ends of a record's two lists lie.
+    pub fn slots_past(record: usize, own: usize, posted: usize) -> impl Iterator<Item = usize> {
+        let start = HEAD_BYTES + record * RECORD_BYTES;
+        let past = move |list: usize, count: usize| {
+            let list = start + list;
+            list + count.min(GUARDS) * GUARD_BYTES..list + LIST_BYTES
+        };
+        past(RECORD_OWN, own).chain(past(RECORD_POSTED, posted))
     }
-}
 
-/// The bytes of a record.
-pub fn record_of(table: &[u8], number: usize) -> &[u8] {
-    &table[HEAD_BYTES + number * RECORD_BYTES..][..RECORD_BYTES]
-}
-
-pub fn record_mut(table: &mut [u8], number: usize) -> &mut [u8] {
-    &mut table[HEAD_BYTES + number * RECORD_BYTES..][..RECORD_BYTES]
-}
-
-/// What stands at a byte, in words.
-fn name(at: usize) -> String {
-    if at >= TABLE_BYTES {
-        return format!("byte {} behind the table", at - TABLE_BYTES);
+    /// Where the first byte differs, in words.
+    pub fn first_difference(&self, other: &Table) -> Option<String> {
+        let at = (0..TABLE_BYTES).find(|&at| self.0[at] != other.0[at])?;
+        let place = match at.checked_sub(HEAD_BYTES) {
+            None => format!("byte {at}"),
+            Some(past) => format!(
+                "record {}, byte {}",
+                past / RECORD_BYTES,
+                past % RECORD_BYTES
+            ),
+        };
+        Some(format!("{place}: {} and {}", self.0[at], other.0[at]))
     }
-    match at.checked_sub(HEAD_BYTES) {
-        None => format!("byte {at} of the head ({})", part(&IN_HEAD, at)),
-        Some(past) => {
-            let (number, at) = (past / RECORD_BYTES, past % RECORD_BYTES);
-            format!("byte {at} of record {number} ({})", part(&IN_RECORD, at))
-        }
-    }
-}
-
-fn part(parts: &[(usize, &'static str)], at: usize) -> &'static str {
-    let part = parts.iter().rfind(|(start, _)| *start <= at);
-    part.map_or("", |(_, name)| name)
 }
 
 #[cfg(test)]
 mod tests {
     use super::*;
+    use crate::rendezvous::RECORD_SIGNAL;
 
     #[test]
     fn a_table_is_as_long_as_the_document_says() {
-        assert_eq!(Table::zero().bytes().len(), 8224);
-        assert_eq!(record_of(Table::zero().bytes(), 31).len(), 256);
+        assert_eq!(Table::zero().bytes().len(), 8150);
     }
 
     #[test]
     fn a_difference_is_told_by_record_and_byte() {
-        let one = Table::of(vec![0; TABLE_BYTES + 3]);
-        assert_eq!(one.first_difference(&one), None);
-        for (at, words) in [
-            (8, "byte 8 of the head (meetings) is 0, not 1"),
-            (31, "byte 31 of the head (without use) is 0, not 1"),
-            (32 + 256 + 3, "byte 3 of record 1 (signal) is 0, not 1"),
-            (32 + 46, "byte 46 of record 0 (without use) is 0, not 1"),
-            (
-                8223,
-                "byte 255 of record 31 (rest of the posted list) is 0, not 1",
-            ),
-            (8226, "byte 2 behind the table is 0, not 1"),
-        ] {
-            let mut other = one.clone();
-            other.bytes_mut()[at] = 1;
-            assert_eq!(one.first_difference(&other).as_deref(), Some(words));
-        }
+        let (one, mut other) = (Table::zero(), Table::zero());
+        assert_eq!(one.first_difference(&other), None);
+        other.bytes_mut()[HEAD_BYTES + RECORD_BYTES + RECORD_SIGNAL] = 1;
+        let told = one.first_difference(&other);
+        let words = format!("record 1, byte {RECORD_SIGNAL}: 0 and 1");
+        assert_eq!(told, Some(words));
     }
 }

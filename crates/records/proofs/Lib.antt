@@ -1,9 +1,0 @@
-pub mod Cuts
-pub mod Guards
-pub mod Matching
-pub mod Offers
-pub mod Records
-pub mod Ruled
-pub mod Slots
-pub mod Tags
-pub mod Values

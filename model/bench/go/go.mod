@@ -1,3 +1,0 @@
-module rendezvous/bench
-
-go 1.18
