@@ -1,12 +1,8 @@
-use Prim.Native.Nat.{ℕ, suc}
-use mathlib.Core.Path.{◌≡◌, refl}
-use mathlib.Core.Bool.{Bool, true, false, cond, ◌||◌}
-use mathlib.Core.List.{List, [], ◌∷◌}
-use borrow.Author.Rules.{rules}
+use Rattle.std.proofs.Common.{ℕ, suc, ◌≡◌, refl, Bool, true, false, List, [], ◌∷◌}
+use Rattle.std.specs.Prelude.{cond, ◌||◌}
 use Rattle.alternative.specs.Types.{Guard, Found}
 use Rattle.alternative.specs.Guards.{any_guard, first_from, next_enabled}
-use Rattle.alternative.proofs.matching.any_enabled.Statement.{statement}
-use Rattle.alternative.proofs.matching.any_enabled.Tie as tie
+use Rattle.alternative.proofs.matching.any_enabled.Goals as goal
 
 abbrev found : Found → Bool
 found (Found.At i) = true
@@ -26,11 +22,8 @@ enabled-found : (gs : List Guard) (f : Found) → f ≡ next_enabled gs 0 → fo
 unfolding next_enabled
 enabled-found gs f e = rw e (any_found (λ g. g.enabled) gs 0)
 
-returns : tie.Need-returns
-returns c = rw c.enum_told.given.1 at (enabled-found _ _ c.before.before.next-enabled.ensures)
+pub returns-in-At : goal.returns-in-At
+returns-in-At c = enabled-found _ _ c.in-At.ensures
 
-returns-2 : tie.Need-returns-2
-returns-2 c = rw c.enum-told2.given.1 at (enabled-found _ _ c.before.before.next-enabled.ensures)
-
-pub any_enabled_spec : {M : Type 1} → statement M
-any_enabled_spec = tie.close (tie.spec (λ c κs. search rules) (λ c. search rules) (λ c. search rules) returns returns-2)
+pub returns-in-Missing : goal.returns-in-Missing
+returns-in-Missing c = enabled-found _ _ c.in-Missing.ensures
