@@ -8,7 +8,7 @@ returns-in-Refused c = rw (← c.form_end.ensures, ← c.withdraw_verdict.ensure
 pub returns-then-commit_came_first : goal.returns-then-commit_came_first
 unfolding withdraw_act
 returns-then-commit_came_first c =
-    rw (← c.form_end.ensures, ← c.withdraw_verdict.ensures, c.in-Accepted.is, ← c.commit_came_first.ensures, c.if-commit_came_first.true) c.alone-in-Accepted.ensures
+    rw (← c.form_end.ensures, ← c.withdraw_verdict.ensures, c.in-Accepted.is, ← c.commit_came_first.ensures, c.if-commit_came_first.true) c.alone-then-commit_came_first.ensures
 
 pub returns-else-commit_came_first : goal.returns-else-commit_came_first
 unfolding withdraw_act
