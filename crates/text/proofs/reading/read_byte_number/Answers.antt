@@ -1,4 +1,4 @@
-use Rattle.std.proofs.Common.{arith, rules}
+use Rattle.std.proofs.Common.{arith}
 use borrow.Author.Tests.{le-leb, lt-leb}
 use Rattle.text.proofs.Decimals.{byte-number-of}
 use Rattle.text.proofs.reading.read_byte_number.Goals as goal

@@ -17,8 +17,8 @@ pub returns : goal.returns
 returns c =
     let s = c.args.s.now in
     let same : decimal s ≡ decimal_from 0 s =
-        elim c.if-n-gt1.branch [
-          then-n-gt1+else-s-eq48 w ↦ decimal-more s (omega arith) w.if-s-eq48.false
-        | else-n-gt1 w ↦ decimal-one s (omega arith) (omega arith)
-        ] in
+    elim c.if-n-gt1.branch [
+      | then-n-gt1+else-s-eq48 w ↦ decimal-more s (omega arith) w.if-s-eq48.false
+      | else-n-gt1 w ↦ decimal-one s (omega arith) (omega arith)
+    ] in
     c.read_digits.ensures ∙ ap in_word (sym same)

@@ -1,8 +1,8 @@
-use Rattle.std.proofs.Common.{◌≡◌, ◌+◌, ◌-◌, ◌*◌, ◌≤◌, true, false, get_or, drop, sym, ◌∙◌, ap, arith, rules}
+use Rattle.std.proofs.Common.{◌≡◌, ◌+◌, ◌-◌, ◌*◌, true, false, get_or, drop, sym, ◌∙◌, ap, arith, rules}
 use Prim.Native.Char.{code}
 use Rattle.text.specs.Reading.{is_digit, decimal_from}
 use Rattle.text.specs.Private.{in_word}
-use Rattle.text.proofs.Decimals.{digit-range, digit-next, digit-missing, digits-end, too_large-in_word, in-word}
+use Rattle.text.proofs.Decimals.{digit-next, digit-missing, digits-end, too_large-in_word, in-word}
 use Rattle.text.proofs.reading.read_digits.Goals as goal
 use Rattle.text.proofs.reading.read_digits.Goals.{Else-not-is_digit}
 

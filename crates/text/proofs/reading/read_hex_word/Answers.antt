@@ -27,9 +27,11 @@ pub loop-i-preserved : goal.loop-i-preserved
 loop-i-preserved c =
     let d = digit (goal.at.loop-i-preserved c).In-Value in
     let l = c.loop-i in
-    let s = c.args.s.now in
-    (search rules, omega (arith, power-next l.i, hex-below (get_or s l.i 0) c.in-Value.d d),
-    l.invariant.2 ∙ hex-next s l.i l.a c.in-Value.d c.loop-i-test.true d)
+    let s = c.args.s.now in (
+      search rules,
+      omega (arith, power-next l.i, hex-below (get_or s l.i 0) c.in-Value.d d),
+      l.invariant.2 ∙ hex-next s l.i l.a c.in-Value.d c.loop-i-test.true d,
+    )
 
 pub returns : goal.returns
 returns c =

@@ -1,4 +1,4 @@
-use Rattle.std.proofs.Common.{◌≡◌, ◌-◌, ◌<◌, length, drop, sym, arith, rules, length-drop}
+use Rattle.std.proofs.Common.{◌≡◌, ◌-◌, ◌<◌, length, drop, sym, arith, length-drop}
 use Rattle.std.proofs.Math.Seq.{take_all}
 use Rattle.text.specs.Types.{◌>>=◌, number_read}
 use Rattle.text.specs.Reading.{whole}

@@ -1,4 +1,4 @@
-use Rattle.std.proofs.Common.{◌≡◌, sym, ◌∙◌, ap, subst, arith, rules, ℤ, pos, ◌-ℤ◌, to_z, w32, w64}
+use Rattle.std.proofs.Common.{sym, ◌∙◌, ap, subst, arith, ℤ, pos, ◌-ℤ◌, to_z, w32, w64}
 use Rattle.std.proofs.Math.Option.{some}
 use borrow.Author.Tests.{lt-ltb, le-ltb, le-leb, lt-leb}
 use mir.Val.{SFits}
