@@ -1,4 +1,4 @@
-use Rattle.std.proofs.Common.{◌≡◌, ◌∙◌, sym, ap, rules, length, replicate}
+use Rattle.std.proofs.Common.{◌≡◌, ◌∙◌, sym, ap, length, replicate}
 use borrow.Author.Rules.{length_unmapped}
 use Rattle.wire.specs.Layout.{guards_length, record_length}
 use Rattle.wire.specs.Writing.{process_parts, guards_bytes, process_bytes}
