@@ -13,7 +13,9 @@ fn main() {
     let archive = format!("{FOLDER}/libexports.a");
     println!("cargo:rerun-if-changed={archive}");
     let Ok(bytes) = std::fs::read(archive) else {
-        eprintln!("crates/exports/out/libexports.a is not there: run `rt lib` in crates/exports first.");
+        eprintln!(
+            "crates/exports/out/libexports.a is not there: run `rt lib` in crates/exports first."
+        );
         exit(1);
     };
     println!("cargo:rustc-env=LINKED_ARCHIVE={}", mark::of(&bytes));

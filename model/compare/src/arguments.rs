@@ -172,7 +172,10 @@ mod tests {
         assert_eq!(read.sheet.path, PathBuf::from("other"));
         let read = read_line("sheet").expect("good words");
         assert_eq!(read.task, Task::One(Part::Sheet));
-        assert!(read.sheet.path.ends_with("crates/sheet_main/out/sheet_main"));
+        assert!(read
+            .sheet
+            .path
+            .ends_with("crates/sheet_main/out/sheet_main"));
     }
 
     #[test]
