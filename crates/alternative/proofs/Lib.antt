@@ -1,3 +1,4 @@
+pub mod Blanks
 pub mod Decided
 pub mod Kept
 pub mod Nan

@@ -14,6 +14,17 @@ test-elim : {A : Type 0} (P : A → Type 0) (b : Bool) {x y : A} → (b ≡ true
 test-elim P true f g = f refl
 test-elim P false f g = g refl
 
+-- what fails at a list's head and at each index of the rest, or at each below one, fails in the list
+all : (test : Guard → Bool) (g : Guard) (gs : List Guard) → test g ≡ false → ((k : ℕ) → test (get_or gs k blank) ≡ true → ⊥)
+    → (k : ℕ) → test (get_or (g ∷ gs) k blank) ≡ true → ⊥
+all test g gs e n zero c = false≢true (sym e ∙ c)
+all test g gs e n (suc j) c = n j c
+
+later : (test : Guard → Bool) (g : Guard) (gs : List Guard) (i : ℕ) → test g ≡ false → ((k : ℕ) → k < i → test (get_or gs k blank) ≡ true → ⊥)
+    → (k : ℕ) → k < suc i → test (get_or (g ∷ gs) k blank) ≡ true → ⊥
+later test g gs i e n zero l c = false≢true (sym e ∙ c)
+later test g gs i e n (suc j) l c = n j (omega arith) c
+
 -- A search stops at a guard that passes the test with none before it, or finds none.
 pub first-view : (P : Found → Type 0) (test : Guard → Bool) (hs : List Guard) (s : ℕ) → (test blank ≡ true → ⊥)
     → ((i : ℕ) → test (get_or hs i blank) ≡ true → ((k : ℕ) → k < i → test (get_or hs k blank) ≡ true → ⊥) → P (Found.At (s + i)))
@@ -24,8 +35,8 @@ first-view P test [] s off a b = b (λ k. off)
 first-view P test (g ∷ gs) s off a b = test-elim P (test g)
     (λ e. rw add-zero at (a 0 e (λ k l. absurd (omega arith))))
     (λ e. first-view P test gs (suc s) off
-    (λ i o n. subst P (ap Found.At (omega arith)) (a (suc i) o (λ k. elim k [ zero ↦ λ l c. false≢true (sym e ∙ c) | suc j ↦ λ l c. n j (omega arith) c ])))
-    (λ n. b (λ k. elim k [ zero ↦ λ c. false≢true (sym e ∙ c) | suc j ↦ n j ])))
+    (λ i o n. subst P (ap Found.At (omega arith)) (a (suc i) o (later test g gs i e n)))
+    (λ n. b (all test g gs e n)))
 
 -- the first index at which a test passes is found
 pub first-at : (test : Guard → Bool) (hs : List Guard) (s i : ℕ) → (test blank ≡ true → ⊥) → test (get_or hs i blank) ≡ true → ((k : ℕ) → k < i → test (get_or hs k blank) ≡ true → ⊥) → first_from test hs s ≡ Found.At (s + i)

@@ -11,6 +11,7 @@ use alternative::{Action, Guard, of_kind, of_rank};
 use text::{ByteNumber, is_digit, read_byte_number};
 
 // The bytes after a `!`.
+#[tactic(auto, unfolding(crate::specs::Commands::send_in))]
 fn send_action(s: &[u8]) -> ReadAction
     ensures { action_read result ≡ send_in s.now }
 {

@@ -8,6 +8,7 @@ use alternative::{Message, float_of};
 use text::{Number, Whole, read_hex_word, read_whole};
 
 // The bytes after a `w`.
+#[tactic(auto, unfolding(crate::specs::Commands::whole_in))]
 fn whole_message(s: &[u8]) -> ReadMessage
     ensures { message_read result ≡ whole_in s.now }
 {
@@ -18,6 +19,7 @@ fn whole_message(s: &[u8]) -> ReadMessage
 }
 
 // The bytes after an `r`.
+#[tactic(auto, unfolding(crate::specs::Commands::reading_in))]
 fn reading_message(s: &[u8]) -> ReadMessage
     ensures { message_read result ≡ reading_in s.now }
 {
@@ -28,6 +30,7 @@ fn reading_message(s: &[u8]) -> ReadMessage
 }
 
 // The bytes after an `l`: eight digits, and eight more that end it.
+#[tactic(auto, unfolding(crate::specs::Commands::limit_in))]
 fn limit_message(s: &[u8]) -> ReadMessage
     ensures { message_read result ≡ limit_in s.now }
 {

@@ -6,6 +6,7 @@ use crate::{Place, Process, Signal};
 use alternative::Guard;
 
 // Whether a guard of process p, in a table of n, names another process of it.
+#[tactic(auto, unfolding(crate::specs::Fits::partner_fits))]
 pub fn partner_fits(n: u8, p: u8, g: Guard) -> bool
     ensures { result ≡ partner_fits n p g }
 {
@@ -56,6 +57,7 @@ fn place_fits(nap: u8, count: u8, altcount: u8, place: Place) -> bool
     }
 }
 
+#[tactic(auto, unfolding(crate::specs::Fits::process_fits))]
 pub fn process_fits(n: u8, nap: u8, p: u8, x: Process, altcount: u8) -> bool
     ensures { result ≡ process_fits n nap p x altcount }
 {

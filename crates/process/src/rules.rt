@@ -38,6 +38,7 @@ fn go(own: Process, y: Process) -> Change
 }
 
 // To A at the first enabled guard at or after index k, or to P.
+#[tactic(auto, unfolding(crate::specs::Rules::scan_from))]
 fn scan_from(x: Process, y: Process, k: usize) -> Change
     ensures { result ≡ change_of x y (scan_from x k) }
 {
@@ -109,6 +110,7 @@ fn try_guard(p: u8, x: Process, q: u8, y: Process, i: u8) -> Change
 }
 
 // Rule 9.
+#[tactic(auto, unfolding(crate::specs::Rules::hand_over))]
 fn hand_over(x: Process, y: Process, i: u8, j: u8) -> Change
     ensures { result ≡ change_of x y (hand_over x i j y) }
 {
@@ -175,6 +177,7 @@ fn absorb(x: Process, y: Process) -> Change
 }
 
 // All fifteen, for process p with record x, in a table with naps of `nap` own steps; q with record y is its partner at A, T and C.
+#[tactic(auto, unfolding(crate::specs::Rules::rule))]
 pub fn rule(nap: u8, p: u8, x: Process, q: u8, y: Process) -> Change
     ensures { result ≡ change_of x y (rule nap p x q y) }
 {

@@ -26,6 +26,7 @@ pub fn alone(answer: Answer, head: Head, own: Process) -> Act
 }
 
 // The record of a process whose offer is accepted.
+#[tactic(auto, unfolding(crate::specs::Calls::entering))]
 fn entered(x: Process, ticket: TransactionId, list: GuardList) -> Process
     requires { list.count ≤ 8 }
     ensures { result ≡ entering x ticket list }

@@ -44,7 +44,7 @@ pub struct Head {
 }
 
 // Document 01's desk: its head, and a record for each process.
-#[derive(Drop)]
+#[derive(Clone, Copy)]
 pub struct ProcessTable {
     pub head: Head,
     pub processes: [Process; MOST_PROCESSES as usize],
@@ -114,7 +114,7 @@ pub struct Act {
 }
 
 // An answer, and the table that the call hands back.
-#[derive(Drop)]
+#[derive(Clone, Copy)]
 pub struct Reply {
     pub answer: Answer,
     pub table: ProcessTable,

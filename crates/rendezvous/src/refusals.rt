@@ -8,6 +8,7 @@ use alternative::{Guard, GuardList, action_holds_nan, any_enabled};
 use process::{Place, TransactionId, partner_fits};
 
 // A new table: 1, then 15.
+#[tactic(auto, unfolding(crate::specs::Refusals::create_verdict))]
 pub fn create_verdict(n: u8, nap: u8) -> Verdict
     ensures { result ≡ create_verdict n nap }
 {
@@ -82,6 +83,7 @@ fn list_verdict(n: u8, p: u8, list: GuardList) -> Verdict
 }
 
 // From the state: 11, then 12.
+#[tactic(auto, unfolding(crate::specs::Refusals::state_verdict))]
 fn state_verdict(place: Place, next: TransactionId) -> Verdict
     ensures { result ≡ state_verdict place next }
 {

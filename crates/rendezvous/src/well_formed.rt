@@ -8,12 +8,14 @@ ghost use Rattle.rendezvous.specs.Acts.{FormOf};
 use crate::{Form, Head, MOST_PROCESSES, ProcessTable};
 use process::{Process, process_fits};
 
+#[tactic(auto, unfolding(crate::specs::WellFormed::count_fits))]
 pub fn count_fits(n: u8) -> bool
     ensures { result ≡ count_fits n }
 {
     (2 <= n) & (n <= MOST_PROCESSES)
 }
 
+#[tactic(auto, unfolding(crate::specs::WellFormed::nap_fits))]
 pub fn nap_fits(nap: u8) -> bool
     ensures { result ≡ nap_fits nap }
 {

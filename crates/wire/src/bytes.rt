@@ -31,6 +31,7 @@ fn wide(b: u8) -> u32
 }
 
 // The word at the front.
+#[tactic(auto, unfolding(crate::specs::Reading::word_of))]
 pub fn word_of(bytes: &[u8]) -> u32
     ensures { result ≡ word_of bytes.now }
 {
@@ -41,6 +42,7 @@ pub fn word_of(bytes: &[u8]) -> u32
     a + 256 * b + 65536 * c + 16777216 * d
 }
 
+#[tactic(auto, unfolding(crate::specs::Writing::word_bytes))]
 pub fn word_bytes(x: u32) -> [u8; WORD_BYTES]
     ensures { result ≡ word_bytes x }
 {
@@ -53,6 +55,7 @@ pub fn word_bytes(x: u32) -> [u8; WORD_BYTES]
 }
 
 // The number of 64 bits at the front.
+#[tactic(auto, unfolding(crate::specs::Reading::long_of))]
 pub fn long_of(bytes: &[u8]) -> u64
     ensures { result ≡ long_of bytes.now }
 {
@@ -61,6 +64,7 @@ pub fn long_of(bytes: &[u8]) -> u64
     low + 4294967296 * high
 }
 
+#[tactic(auto, unfolding(crate::specs::Writing::long_bytes, crate::specs::Writing::word_bytes))]
 pub fn long_bytes(x: u64) -> [u8; LONG_BYTES]
     ensures { result ≡ long_bytes x }
 {

@@ -10,6 +10,7 @@ use alternative::{Action, Guard, GuardList, Message, blank_guard, blanked, float
 use process::{Place, Process, Signal, TransactionId};
 use rendezvous::Head;
 
+#[tactic(auto, unfolding(crate::specs::Reading::message_of))]
 fn message_of(bytes: &[u8]) -> Message
     ensures { result ≡ message_of bytes.now }
 {
@@ -25,6 +26,7 @@ fn message_of(bytes: &[u8]) -> Message
     }
 }
 
+#[tactic(auto, unfolding(crate::specs::Reading::action_of))]
 fn action_of(bytes: &[u8]) -> Action
     ensures { result ≡ action_of bytes.now }
 {
@@ -34,6 +36,7 @@ fn action_of(bytes: &[u8]) -> Action
     }
 }
 
+#[tactic(auto, unfolding(crate::specs::Reading::guard_of))]
 fn guard_of(bytes: &[u8]) -> Guard
     ensures { result ≡ guard_of bytes.now }
 {
@@ -47,6 +50,7 @@ fn guard_of(bytes: &[u8]) -> Guard
     }
 }
 
+#[tactic(auto, unfolding(crate::specs::Reading::place_of))]
 fn place_of(bytes: &[u8]) -> Place
     ensures { result ≡ place_of bytes.now }
 {
@@ -66,6 +70,7 @@ fn place_of(bytes: &[u8]) -> Place
     }
 }
 
+#[tactic(auto, unfolding(crate::specs::Reading::signal_of))]
 fn signal_of(bytes: &[u8]) -> Signal
     ensures { result ≡ signal_of bytes.now }
 {
@@ -104,6 +109,7 @@ pub fn offer_of(bytes: &[u8]) -> GuardList
     }
 }
 
+#[tactic(auto, unfolding(crate::specs::Reading::process_of))]
 pub fn process_of(bytes: &[u8]) -> Process
     ensures { result ≡ process_of bytes.now }
 {
@@ -124,6 +130,7 @@ pub fn process_of(bytes: &[u8]) -> Process
     }
 }
 
+#[tactic(auto, unfolding(crate::specs::Reading::head_of))]
 pub fn head_of(bytes: &[u8]) -> Head
     ensures { result ≡ head_of bytes.now }
 {

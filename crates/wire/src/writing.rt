@@ -16,6 +16,7 @@ pub fn flag_byte(b: bool) -> u8
     if b { 1 } else { 0 }
 }
 
+#[tactic(auto, unfolding(crate::specs::Writing::word_bytes))]
 fn tag_and_words(tag: u8, first: u32, second: u32) -> [u8; layout::MESSAGE_BYTES]
     ensures { result ≡ tag ∷ word_bytes first ++ word_bytes second }
 {
@@ -24,6 +25,7 @@ fn tag_and_words(tag: u8, first: u32, second: u32) -> [u8; layout::MESSAGE_BYTES
     [tag, a[0], a[1], a[2], a[3], b[0], b[1], b[2], b[3]]
 }
 
+#[tactic(auto, unfolding(crate::specs::Writing::message_bytes))]
 pub fn message_bytes(m: Message) -> [u8; layout::MESSAGE_BYTES]
     ensures { result ≡ message_bytes m }
 {
@@ -54,6 +56,7 @@ fn five_and_message(a: u8, b: u8, c: u8, d: u8, e: u8, m: Message) -> [u8; layou
     out
 }
 
+#[tactic(auto, unfolding(crate::specs::Writing::guard_bytes, crate::specs::Writing::action_bytes))]
 fn guard_bytes(g: Guard) -> [u8; layout::GUARD_BYTES]
     ensures { result ≡ guard_bytes g }
 {
@@ -77,6 +80,7 @@ fn three_and_message(a: u8, b: u8, c: u8, m: Message) -> [u8; layout::PLACE_BYTE
     out
 }
 
+#[tactic(auto, unfolding(crate::specs::Writing::place_bytes))]
 fn place_bytes(place: Place) -> [u8; layout::PLACE_BYTES]
     ensures { result ≡ place_bytes place }
 {
@@ -105,6 +109,7 @@ fn two_and_message(a: u8, b: u8, m: Message) -> [u8; layout::SIGNAL_BYTES]
     out
 }
 
+#[tactic(auto, unfolding(crate::specs::Writing::signal_bytes))]
 fn signal_bytes(signal: Signal) -> [u8; layout::SIGNAL_BYTES]
     ensures { result ≡ signal_bytes signal }
 {
