@@ -25,7 +25,8 @@ mod withdraw;
 
 pub use acts::{alone, collect_act, offer_act, step_act, withdraw_act};
 pub use create::fresh_head;
-pub use well_formed::{form_end, form_more, form_start};
+pub use refusals::{create_verdict, list_verdict};
+pub use well_formed::{form_end, form_more, form_start, totals_fit};
 
 // The most processes that a table holds, and the transaction number that is never given out.
 pub const MOST_PROCESSES: u8 = 32;

@@ -59,7 +59,7 @@ fn guards_verdict(n: u8, p: u8, guards: [Guard; 8], count: usize) -> Verdict
 }
 
 // 3, then 4 and 5, then 6.
-fn list_verdict(n: u8, p: u8, list: GuardList) -> Verdict
+pub fn list_verdict(n: u8, p: u8, list: GuardList) -> Verdict
     ensures { result ≡ list_verdict n p list Verdict.Accepted }
 {
     let count = list.count;

@@ -60,7 +60,7 @@ pub fn form_more(form: Form, head: Head, k: u8, x: Process, posted: u8) -> Form
 }
 
 // Whether 2 × meetings + withdrawn is at most `left`: by a half and a difference, since 64 bits do not hold every such sum.
-fn totals_fit(meetings: u64, withdrawn: u64, left: u32) -> bool
+pub fn totals_fit(meetings: u64, withdrawn: u64, left: u32) -> bool
     ensures { result ≡ leb (2 * meetings + withdrawn) left }
 {
     let left = left as u64;

@@ -16,9 +16,9 @@ mod reading;
 mod wholes;
 mod writing;
 
-pub use bytes::{byte_at, from, put_bytes, word_bytes};
+pub use bytes::{byte_at, from, long_bytes, put_bytes, word_bytes};
 pub use layout::{MESSAGE_BYTES, SLOTS, TABLE_BYTES, WORD_BYTES};
-pub use reading::offer_of;
+pub use reading::{message_of, offer_of};
 use reading::{head_of, process_of};
 pub use writing::{flag_byte, message_bytes};
 use writing::{head_bytes, process_bytes};

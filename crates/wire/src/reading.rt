@@ -11,7 +11,7 @@ use process::{Place, Process, Signal, TransactionId};
 use rendezvous::Head;
 
 #[tactic(auto, unfolding(crate::specs::Reading::message_of))]
-fn message_of(bytes: &[u8]) -> Message
+pub fn message_of(bytes: &[u8]) -> Message
     ensures { result ≡ message_of bytes.now }
 {
     let first = word_of(from(bytes, layout::FIRST_AT));
