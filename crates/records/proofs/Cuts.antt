@@ -6,7 +6,7 @@ use mathlib.Core.List.{List, [], ◌∷◌, ◌++◌, append_assoc}
 use native.Mathlib.Omega.{arith}
 use native.Mathlib.Numerals.{add-one}
 use lib.ListN.{length, take, drop, set, length-append, length-drop, take-append-drop}
-use lib.Seq.{drop-cons, sets, sets-eq, take_all, paste, paste-suc, get_or-take, get_or-drop, drop-drop, take-append-le, drop-append-le, take_at, drop_at, set_split, length-take-le}
+use lib.Seq.{drop-cons, sets, sets-eq, take_all, paste, paste-suc, get_or-take, get_or-drop, drop-drop, take-append-le, drop-append-le, take_at, drop_at, length-take-le}
 use Rattle.wire.specs.Reading.{byte}
 use Rattle.records.specs.Layout.{part}
 
@@ -62,12 +62,6 @@ wrote-mid l ys a n k e h g =
       there = ap (take n) (drop_at (take a l) (ys ++ drop k (drop a l)) a front) ∙ take_at ys (drop k (drop a l)) n g;
       after = ap (drop (a + n)) whole ∙ drop_at (take a l ++ ys) (drop (a + n) l) (a + n) both;
     }
-
--- one byte
-pub wrote-set : (l : List ℕ) (a v : ℕ) → a < length l → Wrote l (set l a v) a 1 (v ∷ [])
-wrote-set l a v h =
-    let e : set l a v ≡ take a l ++ ((v ∷ []) ++ drop 1 (drop a l)) = set_split l a v h ∙ ap (λ (y : List ℕ). take a l ++ v ∷ y) (sym (drop-drop 1 a l ∙ ap (λ (k : ℕ). drop k l) (add-one a))) in
-    rw e (wrote-mid l (v ∷ []) a 1 1 refl (omega arith) refl)
 
 -- a copy of the first n of s
 pub wrote-paste : (d : List ℕ) (at : ℕ) (s : List ℕ) (n : ℕ) → at + n ≤ length d → n ≤ length s → Wrote d (paste d at s n) at n (take n s)

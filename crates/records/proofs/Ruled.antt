@@ -1,6 +1,6 @@
 -- The rules, by the tag in a record's bytes.
 use Prim.Native.Nat.{ℕ, ◌+◌, ◌≤◌, ◌<◌}
-use mathlib.Core.Path.{◌≡◌, refl, sym, ap, ◌∙◌}
+use mathlib.Core.Path.{◌≡◌, refl, ap, ◌∙◌}
 use mathlib.Core.Bool.{Bool, true, false, not, ◌&&◌, false≢true}
 use mathlib.Core.List.{List, [], ◌∷◌}
 use mathlib.Core.Logic.{◌⊎◌, inl, inr, ⊎_elim}
@@ -8,7 +8,7 @@ use native.Mathlib.Numerals.{add-one}
 use native.Mathlib.Omega.{arith}
 use lib.ListN.{get_or-eq_default}
 use lib.Dec.{eqb}
-use borrow.Author.Tests.{le-leb, lt-leb, ne_eqb, eqb-true, not-false}
+use borrow.Author.Tests.{eqb-true, not-false}
 use Rattle.process.specs.Process.{state_of}
 use Rattle.process.specs.Rules.{Neither, Own, at_place, with_signal, scan_from, scan, absorb, rule_at, rule}
 use Rattle.wire.specs.Reading.{byte, message_of}
@@ -72,27 +72,10 @@ module _ (i j : ℕ) (m : Message) where
       (λ e. inl refl) (λ e. inl refl) (λ e. absurd (false≢true e)) (λ e. absurd (false≢true e)) (λ e. absurd (false≢true e)) (λ e. absurd (false≢true e)) (λ e. absurd (false≢true e)) (λ e. absurd (false≢true e))
       (λ e. inr refl) (λ e. absurd (false≢true e)) (λ k h e. inl (ap state_of (last_place k i j m h))) tag
 
-  pub busy : (tag : ℕ) → passes_by tag ≡ false → (tag ≡ 9 → ⊥) → word tag ≡ State.Alt
-  busy tag = by-tag (λ k. passes_by k ≡ false → (k ≡ 9 → ⊥) → word k ≡ State.Alt)
-      (λ e f. absurd (false≢true (sym e))) (λ e f. absurd (false≢true (sym e))) (λ e f. refl) (λ e f. refl) (λ e f. refl) (λ e f. refl) (λ e f. refl) (λ e f. refl)
-      (λ e f. absurd (false≢true (sym e))) (λ e f. absurd (f refl)) last tag
-    where
-      last : (k : ℕ) → 10 ≤ k → passes_by k ≡ false → (k ≡ 9 → ⊥) → word k ≡ State.Alt
-      last k h e f = let g : passes_by k ≡ true = rw (lt-leb k 1 (omega arith), ne_eqb k 8 (λ e. omega arith), le-leb 10 k h) in absurd (false≢true (sym e ∙ g))
-
 -- rules 3 to 6, at A, by the tag of the partner's place
 module _ (x : Process) (k i j : ℕ) (m : Message) (older : Bool) (tag : ℕ) where
   pub scan-passes : passes_by tag ≡ true → scan x k (state_of (place_by tag i j m)) older ≡ scan_from x (k + 1)
   scan-passes e = rw add-one (⊎_elim (λ f. rw f) (λ f. rw f) (passing i j m tag e))
-
-  pub scan-waits : tag ≡ 9 → scan x k (state_of (place_by tag i j m)) older ≡ Own (at_place x (Place.Trying k))
-  scan-waits e = rw e
-
-  pub scan-sleeps : passes_by tag ≡ false → (tag ≡ 9 → ⊥) → older ≡ true → scan x k (state_of (place_by tag i j m)) older ≡ Own (at_place x (Place.Asleep 0))
-  scan-sleeps e f g = rw (busy i j m tag e f, g)
-
-  pub scan-stays : passes_by tag ≡ false → (tag ≡ 9 → ⊥) → older ≡ false → scan x k (state_of (place_by tag i j m)) older ≡ Neither
-  scan-stays e f g = rw (busy i j m tag e f, g)
 
 -- the test for rule 13 fails: at W there is no signal
 pub signal-gone : (r : List ℕ) → (eqb (byte r 0) 9 && not (eqb (byte r 3) 0)) ≡ false → byte r 0 ≡ 9 → byte r 3 ≡ 0

@@ -3,10 +3,9 @@ use Prim.Native.Nat.{ℕ, ◌+◌, ◌*◌, ◌≤◌, ◌<◌}
 use mathlib.Core.Path.{◌≡◌, refl, sym, ap, ◌∙◌}
 use mathlib.Core.Bool.{Bool, true, false, not}
 use mathlib.Core.List.{List, [], ◌∷◌, append-nil}
-use native.Mathlib.Nat.{add-zero}
 use native.Mathlib.Omega.{arith}
 use borrow.Author.Rules.{rules}
-use lib.ListN.{length, get_or, set, take, drop, replicate, length-take, length-drop, length-set, drop_of_length-le, get_or-replicate}
+use lib.ListN.{length, get_or, set, take, drop, replicate, length-take, length-drop, length-set, get_or-replicate}
 use lib.Seq.{sets, drop-drop, ext_get_or, get_or-take, get_or-drop, get_or-set_same, get_or-set_other}
 use lib.Dec.{eqb, leb}
 use borrow.Author.Tests.{leb-true, leb-false}
@@ -32,16 +31,10 @@ module _ (l₀ : List ℕ) (at : ℕ) (xs : List ℕ) where
   abbrev pub Stored : List ℕ → ℕ → Type 0
   Stored l k = (k ≤ length xs) × (length l ≡ length l₀) × (sets l (at + k) (drop k xs) ≡ sets l₀ at xs)
 
-  pub stored-none : Stored l₀ 0
-  stored-none = (omega arith, refl, ap (λ (i : ℕ). sets l₀ i xs) (add-zero at))
-
   pub stored_more : (l : List ℕ) (k x : ℕ) → k < length xs → get_or xs k 0 ≡ x → Stored l k → Stored (set l (at + k) x) (k + 1)
   stored_more l k x h e s =
       let step : at + (k + 1) ≡ at + k + 1 = omega arith in
       (omega arith, simp length-set s.1, rw (← e, step) (sets-next l (at + k) xs k h ∙ s.2))
-
-  pub stored-all : (l : List ℕ) (k : ℕ) → length xs ≤ k → Stored l k → l ≡ sets l₀ at xs
-  stored-all l k h s = ap (sets l (at + k)) (sym (drop_of_length-le xs h)) ∙ s.2
 
 -- parts whose bytes are the same
 part_same : (l l' : List ℕ) (a n : ℕ) → length l' ≡ length l → ((i : ℕ) → a ≤ i → i < a + n → byte l' i ≡ byte l i) → part l' a n ≡ part l a n

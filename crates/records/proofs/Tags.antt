@@ -1,5 +1,5 @@
 -- A place and a signal, by their tags.
-use Prim.Native.Nat.{ℕ, zero, suc, ◌≤◌, zero-le}
+use Prim.Native.Nat.{ℕ, zero, suc, ◌≤◌}
 use mathlib.Core.Path.{◌≡◌, refl, sym}
 use mathlib.Core.Bool.{Bool, true, false, ◌&&◌, ◌||◌, not}
 use mathlib.Core.List.{List, [], ◌∷◌}
@@ -56,15 +56,6 @@ open_at-by i j m accepting tag = by-tag (λ k. open_at (place_by k i j m) accept
   where
     last : (k : ℕ) → 10 ≤ k → open_at (place_by k i j m) accepting ≡ open_by k accepting
     last k h = rw (last_place k i j m h, le-leb 1 k (omega arith), lt-leb k 3 (omega arith), le-leb 5 k (omega arith), lt-leb k 6 (omega arith), ne_eqb k 8 (λ e. omega arith), ne_eqb k 7 (λ e. omega arith), ne_eqb k 9 (λ e. omega arith))
-
--- a number that is none of the n below n is at least n: what is known where a match takes its last arm
-abbrev Past : ℕ → ℕ → Type 0
-Past zero k = Unit {0}
-Past (suc n) k = Past n k × (k ≡ n → ⊥)
-
-pub past_all : (n k : ℕ) → Past n k → n ≤ k
-past_all zero k h = zero-le
-past_all (suc n) k h = let l = past_all n k h.0 in let e = h.1 in omega arith
 
 -- at W and I no index but the signal's is tested
 pub resting_fits : (nap : ℕ) (r : List ℕ) → (eqb (byte r 0) 9 || eqb (byte r 0) 0) ≡ true → indexes_fit nap r ≡ (eqb (byte r 3) 0 || ltb (byte r 4) (byte r 5))
