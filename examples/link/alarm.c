@@ -1,6 +1,6 @@
 /* An event finder waits with two values for the radio link, a trend line and an alarm, the trend line first in its list. One guard of the
    radio matches both: by the ranks it takes the alarm first.
-   cc -Icrates/exports examples/link/alarm.c target/staticlib/libexports.a -o target/alarm-c */
+   cc -Icrates/exports examples/link/alarm.c crates/exports/out/libexports.a -o target/alarm-c */
 #include "rendezvous.h"
 #include <stdio.h>
 #include <stdlib.h>

@@ -1,7 +1,7 @@
 //! An event finder waits with two values for the radio link, a trend line and an alarm, the trend
 //! line first in its list. One guard of the radio matches both: by the ranks it takes the alarm
 //! first.
-//! rustc --edition 2021 -L target/staticlib -l static=exports examples/link/alarm.rs -o target/alarm-rust
+//! rustc --edition 2021 -L crates/exports/out -l static=exports examples/link/alarm.rs -o target/alarm-rust
 
 #[path = "../../crates/exports/rendezvous.rs"]
 mod rendezvous;

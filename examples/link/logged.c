@@ -1,5 +1,5 @@
 /* Every call logged as a line of a script, so that what a logger did in the field can be traced afterwards.
-   cc -Icrates/exports examples/link/logged.c target/staticlib/libexports.a -o target/logged-c
+   cc -Icrates/exports examples/link/logged.c crates/exports/out/libexports.a -o target/logged-c
    target/logged-c LOG     appends its calls to LOG, and prints what each of them answered, as the script program prints it
    ./run < LOG             prints the same
    ./run --trace < LOG     tells the way of each message

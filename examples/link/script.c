@@ -1,5 +1,5 @@
 /* The script program over the proved library, from C: standard input in pieces of 1,000 bytes.
-   cc -Icrates/exports examples/link/script.c target/staticlib/libexports.a -o target/script-c */
+   cc -Icrates/exports examples/link/script.c crates/exports/out/libexports.a -o target/script-c */
 #include "rendezvous.h"
 #include <stdio.h>
 #include <string.h>

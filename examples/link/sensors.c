@@ -1,6 +1,6 @@
 /* A pier's sampler offers a strain and a temperature, both whole numbers, and the store has a guard for each: by the kinds each value
    comes to the guard where it belongs, whatever the order of either list.
-   cc -Icrates/exports examples/link/sensors.c target/staticlib/libexports.a -o target/sensors-c */
+   cc -Icrates/exports examples/link/sensors.c crates/exports/out/libexports.a -o target/sensors-c */
 #include "rendezvous.h"
 #include <stdio.h>
 #include <stdlib.h>

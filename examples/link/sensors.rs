@@ -1,7 +1,7 @@
 //! A pier's sampler offers a strain and a temperature, both whole numbers, and the store has a guard
 //! for each: by the kinds each value comes to the guard where it belongs, whatever the order of
 //! either list.
-//! rustc --edition 2021 -L target/staticlib -l static=exports examples/link/sensors.rs -o target/sensors-rust
+//! rustc --edition 2021 -L crates/exports/out -l static=exports examples/link/sensors.rs -o target/sensors-rust
 
 #[path = "../../crates/exports/rendezvous.rs"]
 mod rendezvous;

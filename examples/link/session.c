@@ -1,5 +1,5 @@
 /* Process 0 offers the reading 4.72 to process 1, which takes it: the proved library from C.
-   cc -Icrates/exports examples/link/session.c target/staticlib/libexports.a -o target/session-c */
+   cc -Icrates/exports examples/link/session.c crates/exports/out/libexports.a -o target/session-c */
 #include "rendezvous.h"
 #include <stdio.h>
 #include <stdlib.h>

@@ -1,5 +1,5 @@
 //! Process 0 offers the reading 4.72 to process 1, which takes it: the proved library from Rust.
-//! rustc --edition 2021 -L target/staticlib -l static=exports examples/link/session.rs -o target/session-rust
+//! rustc --edition 2021 -L crates/exports/out -l static=exports examples/link/session.rs -o target/session-rust
 
 #[path = "../../crates/exports/rendezvous.rs"]
 mod rendezvous;

@@ -1,6 +1,6 @@
 /* The day sheet that an installer signs, out of the table's bytes: offers, meetings, withdrawn and open. A sampler hands two readings to
    the store; the radio link gives three offers up, and waits with a fourth.
-   cc -Icrates/exports examples/link/sheet.c target/staticlib/libexports.a -o target/sheet-c */
+   cc -Icrates/exports examples/link/sheet.c crates/exports/out/libexports.a -o target/sheet-c */
 #include "rendezvous.h"
 #include <inttypes.h>
 #include <stdio.h>

@@ -1,7 +1,7 @@
 //! The day sheet that an installer signs, out of the table's bytes: offers, meetings, withdrawn and
 //! open. A sampler hands two readings to the store; the radio link gives three offers up, and waits
 //! with a fourth.
-//! rustc --edition 2021 -L target/staticlib -l static=exports examples/link/sheet.rs -o target/sheet-rust
+//! rustc --edition 2021 -L crates/exports/out -l static=exports examples/link/sheet.rs -o target/sheet-rust
 
 #[path = "../../crates/exports/rendezvous.rs"]
 mod rendezvous;

@@ -1,6 +1,6 @@
 /* A radio task takes readings in slots, and gives up when a slot closes before it has met. `meet` is the loop of a task with a time
    limit, to be copied.
-   cc -pthread -Icrates/exports examples/link/slot.c target/staticlib/libexports.a -o target/slot-c
+   cc -pthread -Icrates/exports examples/link/slot.c crates/exports/out/libexports.a -o target/slot-c
 
    The loop. As in tasks.c a task takes the lock, offers, and makes rounds, in which EVERY process steps once, in number order. After
    each round it looks whether its process is at M, and whether its slot has closed: here a slot is so many rounds, a radio would look

@@ -1,6 +1,6 @@
 //! A radio task takes readings in slots, and gives up when a slot closes before it has met. `meet`
 //! is the loop of a task with a time limit, to be copied.
-//! rustc --edition 2021 -C panic=abort -L target/staticlib -l static=exports examples/link/slot.rs -o target/slot-rust
+//! rustc --edition 2021 -C panic=abort -L crates/exports/out -l static=exports examples/link/slot.rs -o target/slot-rust
 //!
 //! The loop. As in tasks.rs a task takes the lock, offers, and makes rounds, in which EVERY process
 //! steps once, in number order. After each round it looks whether its process is at M, and whether

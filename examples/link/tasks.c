@@ -1,5 +1,5 @@
 /* Two tasks on two threads pass readings and limits by rendezvous. `meet` is the loop of a task, to be copied.
-   cc -pthread -Icrates/exports examples/link/tasks.c target/staticlib/libexports.a -o target/tasks-c
+   cc -pthread -Icrates/exports examples/link/tasks.c crates/exports/out/libexports.a -o target/tasks-c
    target/tasks-c [N]      passes N batches of 100 readings; N is 1,000 if it is not given
 
    The loop. A task takes the lock and offers. Under the same lock it makes rounds, in which EVERY process steps once, in number order,

@@ -1,6 +1,6 @@
 //! Two tasks on two threads pass readings and limits by rendezvous. `meet` is the loop of a task,
 //! to be copied.
-//! rustc --edition 2021 -C panic=abort -L target/staticlib -l static=exports examples/link/tasks.rs -o target/tasks-rust
+//! rustc --edition 2021 -C panic=abort -L crates/exports/out -l static=exports examples/link/tasks.rs -o target/tasks-rust
 //! target/tasks-rust [N] passes N batches of 100 readings; N is 1,000 if it is not given.
 //!
 //! The loop. A task takes the lock and offers. Under the same lock it makes rounds, in which EVERY

@@ -1,6 +1,7 @@
 -- To be believed. Document 01, rule 9 and refusal 5: the messages that a rendezvous hands over, and messages that hold a NaN.
+use Rattle.std.specs.Prelude.{◌||◌}
 use Rattle.std.specs.Float.Ieee.{is_nan}
-use Rattle.alternative.specs.Types.{Bool, false, ◌||◌, Message, Action}
+use Rattle.alternative.specs.Types.{Bool, false, Message, Action}
 
 -- "If the own guard sends, its message goes with the signal ..; if it receives, .. the signal nothing."
 abbrev pub sent_by : Action → Message

@@ -1,5 +1,6 @@
 -- To be believed. Document 01, "The desk and its tasks" and rule 7, and CRs 2 and 5 of document 02: when guards and offers match, and the two searches in a list of guards.
-use Rattle.alternative.specs.Types.{ℕ, suc, Bool, true, false, not, ◌&&◌, ◌||◌, cond, List, [], ◌∷◌, ◌++◌, length, take, drop, replicate, eqb, ltb, Action, Guard, GuardList, Found}
+use Rattle.std.specs.Prelude.{◌&&◌, ◌||◌, ◌∷◌, ◌++◌}
+use Rattle.alternative.specs.Types.{ℕ, suc, Bool, true, false, not, cond, List, [], length, take, drop, replicate, eqb, ltb, Action, Guard, GuardList, Found}
 
 -- "its list of up to eight guards"
 abbrev pub most_guards : ℕ

@@ -1,5 +1,6 @@
 -- To be believed. CR 2 of document 02: what kinds change of "match". The function `kinds_refine` carries these claims.
-use Rattle.alternative.specs.Types.{ℕ, ◌≡◌, true, Guard}
+use Rattle.std.specs.Prelude.{◌≡◌}
+use Rattle.alternative.specs.Types.{ℕ, true, Guard}
 use Rattle.alternative.specs.Guards.{plain_match, guards_match}
 
 pub record KindsRefine : Type 0 where

@@ -1,5 +1,6 @@
 -- To be believed. CR 5 of document 02: which guard rule 7 keeps. The function `ranks_decide` carries these claims; they say all that there is to say of the search.
-use Rattle.alternative.specs.Types.{ℕ, ◌≤◌, ◌<◌, ◌≡◌, true, List, some, get_elem?, Guard, Found}
+use Rattle.std.specs.Prelude.{◌≤◌, ◌<◌, ◌≡◌}
+use Rattle.alternative.specs.Types.{ℕ, true, List, some, get_elem?, Guard, Found}
 use Rattle.alternative.specs.Guards.{guards_match, first_from, kept_match}
 
 -- guard h stands at index k of the list hs and matches p's guard g

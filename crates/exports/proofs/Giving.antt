@@ -1,7 +1,7 @@
 -- What a call writes, all or nothing.
 use Prim.Native.Nat.{ℕ}
-use mathlib.Core.Path.{◌≡◌, refl, sym, ◌∙◌}
-use mathlib.Core.Bool.{Bool, true, false, ◌&&◌, false≢true}
+use mathlib.Core.Path.{◌≡◌, sym, ◌∙◌}
+use mathlib.Core.Bool.{Bool, true, ◌&&◌}
 use mathlib.Core.List.{List}
 use borrow.Author.Tests.{leb-true}
 use lib.Dec.{leb}
@@ -20,9 +20,6 @@ use Rattle.exports.specs.Answers.{said_bytes, is_table, Gives}
 module _ (read : Bool) (reply : Reply) (t a : List ℕ) where
   abbrev enough : Bool
   enough = read && is_table t && leb answer_length (length a)
-
-  pub gives_nothing : enough ≡ false → Gives read reply t a t a false
-  gives_nothing e = record { enough = sym e; table_given = refl; answer_given = refl; faithful = λ y. absurd (false≢true y) }
 
   pub gives_both : (t' a' : List ℕ) → enough ≡ true → length (said_bytes (said reply.answer)) ≡ answer_length → t' ≡ onto table_length (bytes_of reply.table) t
       → a' ≡ sets a 0 (said_bytes (said reply.answer)) → Faithful reply.table → Gives read reply t a t' a' true

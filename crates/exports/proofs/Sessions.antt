@@ -1,23 +1,18 @@
 -- A session's bytes, written part by part, are read as its state; and a text put at the front.
 use Prim.Native.Nat.{ℕ, zero, suc, ◌≤◌, min}
 use mathlib.Core.Path.{◌≡◌, refl, sym, ap, ◌∙◌}
-use mathlib.Core.Bool.{Bool, true, false, cond, true≢false, false≢true}
+use mathlib.Core.Bool.{true, cond, true≢false}
 use mathlib.Core.List.{List, [], ◌∷◌, ◌++◌, flatten, append_assoc, append-nil}
 use native.Mathlib.Omega.{arith}
-use borrow.Author.Rules.{length_unmapped}
 use borrow.Author.Tests.{le-leb}
-use mir.Val.{Val}
-use denote.Shadow.{shadow}
-use denote.Struct.Declared as declared
 use lib.Dec.{leb}
 use lib.ListN.{length, take, drop, set, replicate, length-take}
 use lib.Seq.{sets, take_all, take_at, drop-length}
 use Rattle.text.specs.declared.Text.{Text}
 use Rattle.text.specs.Writing.{shown, line_length}
 use Rattle.script.specs.Lines.{begun_length}
-use Rattle.script.specs.Feeding.{SessionState, state_held}
+use Rattle.script.specs.Feeding.{state_held}
 use Rattle.script.specs.declared.Session.{Session}
-use Rattle.script.specs.contracts.Session as session
 use Rattle.script.proofs.Lists.{take-most}
 use Rattle.wire.specs.Claims.{Faithful}
 use Rattle.wire.specs.Layout.{table_length}
@@ -47,10 +42,6 @@ unfolding onto
 table-whole t l e =
     let gone : drop table_length l ≡ [] = ap (λ (n : ℕ). drop n l) (sym e) ∙ drop-length l in
     rw (le-leb table_length (length l) (omega arith)) (ap (λ (r : List ℕ). bytes_of t ++ r) gone ∙ append-nil (bytes_of t))
-
--- what owning a session tells of its bytes
-pub session-long : (s : Session) (vs : List Val) → shadow ((declared.row session.the_type).own s vs) → length s.bytes ≡ begun_length
-session-long s vs h = search (length_unmapped, h)
 
 module _ (s : Session) (long : length s.bytes ≡ begun_length) (table : Faithful s.table) where
   -- two bytes, the begun line's, the table's
@@ -84,11 +75,6 @@ module _ (s : Session) (long : length s.bytes ≡ begun_length) (table : Faithfu
         behind = rw laid (from-part parts 3 session_length (drop session_length l) all);
         short = λ n. absurd (true≢false n);
       }
-
--- a session that is read may be long enough too
-pub stored-read : (read : Bool) (s : SessionState) (l l' : List ℕ) (whole : Bool) → read ≡ true → Stored true s l l' whole → Stored read s l l' whole
-stored-read true s l l' whole e k = k
-stored-read false s l l' whole e k = absurd (false≢true e)
 
 -- a text, which is a line at most
 pub text-put : (t : Text) → length t.bytes ≡ line_length → (l : List ℕ) (count : ℕ) → line_length ≤ length l → count ≡ min t.length line_length

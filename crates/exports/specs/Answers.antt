@@ -1,10 +1,11 @@
 -- To be believed. What an exported call hands back: the bytes of the table, those of the answer, and whether the table given and both buffers were long enough.
+use Rattle.std.specs.Prelude.{◌≡◌, ◌&&◌, ◌∷◌, ◌++◌}
 use Rattle.rendezvous.specs.Numbers.{Said, said, made, ticket, place, same, outcome, withdrawn, too_late, movers, refusal}
 use Rattle.wire.specs.Claims.{Faithful}
 use Rattle.wire.specs.Layout.{table_length}
 use Rattle.wire.specs.Writing.{word_bytes, message_bytes, bytes_of}
 use Rattle.exports.specs.Layout.{answer_length}
-use Rattle.exports.specs.Types.{ℕ, ◌≡◌, Bool, true, ◌&&◌, cond, List, [], ◌∷◌, ◌++◌, flatten, Option, some, none, length, drop, leb, Message, Reply}
+use Rattle.exports.specs.Types.{ℕ, Bool, true, cond, List, [], flatten, Option, some, none, length, drop, leb, Message, Reply}
 
 -- the variant of answer and two bytes, a message, a word
 abbrev pub answer_parts : ℕ → ℕ → ℕ → Message → ℕ → List (List ℕ)

@@ -1,10 +1,10 @@
 -- To be believed. How many bytes an answer and a session take, and where in them each part stands. A part without a name here is one byte, and stands behind the one
 -- before it.
-use Rattle.std.specs.Prelude.{◌+◌}
+use Rattle.std.specs.Prelude.{◌+◌, ◌≡◌}
 use Rattle.text.specs.Writing.{line_length}
 use Rattle.script.specs.Lines.{begun_length}
 use Rattle.wire.specs.Layout.{word_length, message_length, table_length}
-use Rattle.exports.specs.Types.{ℕ, ◌≡◌}
+use Rattle.exports.specs.Types.{ℕ}
 
 -- an answer: its variant, two bytes, a message, a word
 abbrev pub message_at : ℕ

@@ -1,8 +1,9 @@
 -- Not to be believed: what inner contracts cite, of the table that messages go by way of for a test of their bits.
+use Rattle.std.specs.Prelude.{◌-◌, ◌∷◌}
 use Rattle.alternative.specs.Guards.{most_guards, blank}
 use Rattle.process.specs.Process.{fresh_process}
 use Rattle.rendezvous.specs.Table.{most_processes, fresh_head, with_next}
-use Rattle.exports.specs.Types.{ℕ, ◌-◌, true, List, ◌∷◌, replicate, Message, Action, Guard, Signal, Place, Process, ProcessTable, Answer}
+use Rattle.exports.specs.Types.{ℕ, true, List, replicate, Message, Action, Guard, Signal, Place, Process, ProcessTable, Answer}
 
 abbrev pub on_other : ℕ → Action → Place → Process
 on_other partner action place =

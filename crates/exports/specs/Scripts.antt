@@ -1,12 +1,12 @@
 -- To be believed. The script program for programs in other languages: the bytes of a session between two pieces of its input, and what each call gives.
-use Rattle.std.specs.Prelude.{◌/◌, min, not, map, eqb}
+use Rattle.std.specs.Prelude.{◌/◌, min, not, map, eqb, ◌≡◌, ◌&&◌, ◌∷◌, ◌++◌}
 use Rattle.text.specs.Writing.{line_length}
 use Rattle.script.specs.Lines.{begun_length}
 use Rattle.script.specs.Feeding.{SessionState, start, table_if, fed, finished}
 use Rattle.script.specs.Session.{output}
 use Rattle.wire.specs.Reading.{byte, table_of}
 use Rattle.exports.specs.Layout.{begun_at, table_at, session_length}
-use Rattle.exports.specs.Types.{ℕ, ◌≡◌, Bool, true, false, ◌&&◌, cond, List, [], ◌∷◌, ◌++◌, flatten, length, take, drop, replicate, leb}
+use Rattle.exports.specs.Types.{ℕ, Bool, true, false, cond, List, [], flatten, length, take, drop, replicate, leb}
 
 -- Any bytes are read as a session: any first byte but 0 is true, and of the begun line only as many bytes are read as there is room for.
 unfoldable pub state_in : List ℕ → SessionState

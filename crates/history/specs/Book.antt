@@ -1,9 +1,10 @@
 -- To be believed. Document 01, "The plain book", and what CR 1 of document 02 says of it.
+use Rattle.std.specs.Prelude.{◌∷◌, ◌++◌}
 use Rattle.alternative.specs.Guards.{kept_match}
 use Rattle.alternative.specs.Exchange.{sent_by}
 use Rattle.rendezvous.specs.Numbers.{Said, made, ticket, place, same, outcome, withdrawn, too_late, movers, refusal}
 use Rattle.rendezvous.specs.Run.{Call, Offer, Step, Collect, Withdraw}
-use Rattle.history.specs.Types.{ℕ, suc, code, Bool, true, false, cond, List, [], ◌∷◌, ◌++◌, Option, some, none, get_elem?, eqb, Message, Action, Guard, Found}
+use Rattle.history.specs.Types.{ℕ, suc, code, Bool, true, false, cond, List, [], Option, some, none, get_elem?, eqb, Message, Action, Guard, Found}
 
 -- "For each party it has an open offer (ticket and guard list) or none, and a due outcome (guard index, partner, message) or none. It also has a next ticket and the
 -- meetings so far": a meeting has "both tickets, p, i, q, j and the sending guard's message".

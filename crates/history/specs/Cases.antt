@@ -1,5 +1,5 @@
 -- To be believed. Document 01, "Edges to try": the starred cases, in its order, with its numbers.
-use Rattle.std.specs.Prelude.{map}
+use Rattle.std.specs.Prelude.{map, ◌≡◌, ◌∷◌, ◌++◌}
 use Rattle.std.specs.Float.{binary32}
 use Rattle.std.specs.Float.Ieee.{of_bits}
 use Rattle.process.specs.Process.{fresh_process}
@@ -7,7 +7,7 @@ use Rattle.rendezvous.specs.Table.{most_processes, with_next, fresh_head, fresh_
 use Rattle.rendezvous.specs.Numbers.{Said, made, ticket, place, same, outcome, movers, refusal, said}
 use Rattle.rendezvous.specs.Run.{Call, Offer, Step, Collect}
 use Rattle.rendezvous.specs.Commands.{Command, New, Do, Movers, reply_to_command}
-use Rattle.history.specs.Types.{ℕ, Char, code, ◌≡◌, true, false, List, [], ◌∷◌, ◌++◌, Option, some, none, replicate, Message, Action, Guard}
+use Rattle.history.specs.Types.{ℕ, Char, code, true, false, List, [], Option, some, none, replicate, Message, Action, Guard}
 use Rattle.history.specs.Types.{ProcessTable}
 
 -- what the commands of a list say, each getting the table that the last one handed back

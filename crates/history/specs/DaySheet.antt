@@ -1,10 +1,10 @@
 -- To be believed. CR 6 of document 02: "Offers are the accepted offers of the history, meetings its commits. Users check that offers = 2 × meetings + withdrawn + open, which must hold after
 -- any calls from a fresh desk." Of every list of calls, withdrawals and refused ones among them.
-use Rattle.std.specs.Prelude.{◌+◌}
+use Rattle.std.specs.Prelude.{◌+◌, ◌≤◌, ◌≡◌, ◌∷◌}
 use Rattle.rendezvous.specs.Table.{most_processes, accounted_for, fresh_table}
 use Rattle.rendezvous.specs.Numbers.{Said, made, ticket, place, same, outcome, withdrawn, too_late, movers, refusal}
 use Rattle.rendezvous.specs.Run.{Call, said_to, table_after, table_after_all}
-use Rattle.history.specs.Types.{ℕ, ◌≤◌, ◌≡◌, List, [], ◌∷◌, ProcessTable}
+use Rattle.history.specs.Types.{ℕ, List, [], ProcessTable}
 use Rattle.history.specs.Book.{Moment, Joined, Withdrew}
 use Rattle.history.specs.Machine.{made_by_all}
 use Rattle.history.specs.Tables.{tables}

@@ -1,9 +1,10 @@
 -- To be believed. Demand 3 of document 00, with the withdrawals of CR 1 of document 02: one claim about every list of offers, steps, collections and withdrawals, stated over any machine; `Demand3` is that of the tables.
+use Rattle.std.specs.Prelude.{◌≤◌, ◌≡◌, ◌∷◌, ◌++◌, ◌⊎◌}
 use Rattle.alternative.specs.Guards.{guards_match, offers_match}
 use Rattle.rendezvous.specs.Table.{most_processes, fresh_table}
 use Rattle.rendezvous.specs.Numbers.{Said, ticket, outcome, refusal}
 use Rattle.rendezvous.specs.Run.{Call, Offer, Step, Collect, Withdraw, after_all}
-use Rattle.history.specs.Types.{ℕ, ◌≤◌, ◌≡◌, true, false, List, [], ◌∷◌, ◌++◌, ◌⊎◌, some, get_elem?, Guard}
+use Rattle.history.specs.Types.{ℕ, true, false, List, [], some, get_elem?, Guard}
 use Rattle.history.specs.Book.{Transaction, Due, Rendezvous, Moment, Joined, Withdrew, History, empty_history}
 use Rattle.history.specs.Machine.{Machine, book_after_all, made_by_all, EachCall}
 use Rattle.history.specs.Tables.{tables}

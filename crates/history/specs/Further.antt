@@ -2,7 +2,7 @@
 -- damaged tables, rules 8 and 9, limits, open offers, the run of the marked session; and demand 3 at the ends of its range.
 use Rattle.std.specs.Float.{binary32}
 use Rattle.std.specs.Float.Ieee.{of_bits}
-use Rattle.std.specs.Prelude.{length, take}
+use Rattle.std.specs.Prelude.{length, take, ◌≡◌, ◌∷◌, ◌++◌}
 use Rattle.alternative.specs.Guards.{slots}
 use Rattle.process.specs.declared.Signal.{Signal}
 use Rattle.process.specs.Process.{fresh_process}
@@ -10,7 +10,7 @@ use Rattle.rendezvous.specs.Table.{most_processes, process, with_next, fresh_hea
 use Rattle.rendezvous.specs.Numbers.{Said, made, ticket, outcome, movers, refusal}
 use Rattle.rendezvous.specs.Run.{Call, Offer, table_after}
 use Rattle.rendezvous.specs.Commands.{Movers}
-use Rattle.history.specs.Types.{ℕ, ◌≡◌, Bool, true, false, List, [], ◌∷◌, ◌++◌, some, none, replicate, Message, Action, Guard, Place, Process}
+use Rattle.history.specs.Types.{ℕ, Bool, true, false, List, [], some, none, replicate, Message, Action, Guard, Place, Process}
 use Rattle.history.specs.Types.{ProcessTable}
 use Rattle.history.specs.Book.{Moment, Joined, empty_history, ◌>>=◌}
 use Rattle.history.specs.Machine.{book_after_all, made_by_all}

@@ -1,11 +1,11 @@
 -- To be believed. CR 2 of document 02, by cases: two sensors whose whole numbers would cross, guards that match but for their kinds, disabled guards, refusals, and the book's search.
-use Rattle.std.specs.Prelude.{map, pos}
+use Rattle.std.specs.Prelude.{map, pos, ◌≡◌, ◌∷◌, ◌++◌}
 use Rattle.alternative.specs.Guards.{of_kind}
 use Rattle.rendezvous.specs.Table.{fresh_table}
 use Rattle.rendezvous.specs.Numbers.{Said, made, ticket, outcome, movers, refusal}
 use Rattle.rendezvous.specs.Run.{Call, Offer, Step, Collect}
 use Rattle.rendezvous.specs.Commands.{Do, Movers}
-use Rattle.history.specs.Types.{ℕ, ◌≡◌, List, [], ◌∷◌, ◌++◌, some, none, replicate, Message, Guard}
+use Rattle.history.specs.Types.{ℕ, List, [], some, none, replicate, Message, Guard}
 use Rattle.history.specs.Book.{Moment, Joined, empty_history, ◌>>=◌}
 use Rattle.history.specs.Machine.{book_after_all, made_by_all}
 use Rattle.history.specs.Tables.{tables}

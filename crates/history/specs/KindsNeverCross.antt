@@ -1,9 +1,10 @@
 -- To be believed. CR 2 of document 02: "two guards match only if their kinds are equal as well." So no list of calls crosses kinds: each rendezvous joins guards of one kind.
 -- (It is said of what the book enters; by demand 3 the book is never stuck, and its run is what the tables show.)
+use Rattle.std.specs.Prelude.{◌≤◌, ◌≡◌, ◌∷◌, ◌++◌}
 use Rattle.rendezvous.specs.Table.{most_processes, fresh_table}
 use Rattle.rendezvous.specs.Numbers.{Said}
 use Rattle.rendezvous.specs.Run.{Call}
-use Rattle.history.specs.Types.{ℕ, ◌≤◌, ◌≡◌, List, [], ◌∷◌, ◌++◌, Option, some, get_elem?}
+use Rattle.history.specs.Types.{ℕ, List, [], Option, some, get_elem?}
 use Rattle.history.specs.Book.{Transaction, Rendezvous, Joined, History, empty_history, ◌>>=◌}
 use Rattle.history.specs.Machine.{EachCall}
 use Rattle.history.specs.Tables.{tables}

@@ -1,7 +1,8 @@
 -- To be believed. What demand 3 speaks of, as any machine shows it that takes the calls; the table of document 01 is one (Tables).
+use Rattle.std.specs.Prelude.{◌≡◌, ◌∷◌, ◌++◌}
 use Rattle.rendezvous.specs.Numbers.{Said}
 use Rattle.rendezvous.specs.Run.{Call}
-use Rattle.history.specs.Types.{ℕ, ◌≡◌, List, [], ◌∷◌, ◌++◌, Option, some}
+use Rattle.history.specs.Types.{ℕ, List, [], Option, some}
 use Rattle.history.specs.Book.{Transaction, Moment, History, seen, ◌>>=◌, enter}
 
 -- What a call says, what it leaves, and the moments of the run that it makes; the open offer of each process; and that "no task's step would change the desk".

@@ -1,5 +1,6 @@
 -- To be believed. CR 3 of document 02, by cases: which tables are made, naps of three steps and of two, sleepers on tables that no call leaves, and what an early step leaves behind; and, for every length, an order of
 -- steps that settles nothing.
+use Rattle.std.specs.Prelude.{◌≤◌, ◌≡◌, ◌∷◌, ◌++◌}
 use mathlib.Core.List.{map, flatten}
 use Rattle.alternative.specs.Guards.{offers_match}
 use Rattle.process.specs.declared.Signal.{Signal}
@@ -8,7 +9,7 @@ use Rattle.rendezvous.specs.Table.{with_head, process, fresh_table}
 use Rattle.rendezvous.specs.Numbers.{Said, made, ticket, same, outcome, withdrawn, movers, refusal}
 use Rattle.rendezvous.specs.Run.{Call, Offer, Step, table_after, table_after_all}
 use Rattle.rendezvous.specs.Commands.{Command, New, Do, Movers}
-use Rattle.history.specs.Types.{ℕ, suc, ◌≤◌, ◌≡◌, true, false, List, [], ◌∷◌, ◌++◌, some, none, replicate, Message, Place, ProcessTable}
+use Rattle.history.specs.Types.{ℕ, suc, true, false, List, [], some, none, replicate, Message, Place, ProcessTable}
 use Rattle.history.specs.Cases.{Case, Hold, case, offers, steps, collects, receive, send, disabled, reading, at}
 use Rattle.history.specs.Further.{by_hand, table}
 use Rattle.history.specs.Withdrawals.{withdraws}

@@ -1,11 +1,12 @@
 -- To be believed. Nothing committed is lost: after every list of calls from any fresh table the book has an outcome due for exactly those processes that the table shows to
 -- have one, and when nothing can move, all that is due can be collected. (The clause on collections of demand 3 speaks of accepted ones alone.)
+use Rattle.std.specs.Prelude.{◌≤◌, ◌≡◌, ◌||◌}
 use Rattle.process.specs.Process.{is_at, own_guard}
 use Rattle.rendezvous.specs.Table.{most_processes, process, fresh_table}
 use Rattle.rendezvous.specs.Calls.{commit_came_first, Quiescent}
 use Rattle.rendezvous.specs.Numbers.{outcome}
 use Rattle.rendezvous.specs.Run.{Call, Collect, said_to, table_after_all}
-use Rattle.history.specs.Types.{ℕ, ◌≤◌, ◌≡◌, Bool, true, false, ◌||◌, List, Option, some, none, Message, Place, ProcessTable}
+use Rattle.history.specs.Types.{ℕ, Bool, true, false, List, Option, some, none, Message, Place, ProcessTable}
 use Rattle.history.specs.Book.{Due, History, empty_history}
 use Rattle.history.specs.Machine.{book_after_all}
 use Rattle.history.specs.Tables.{tables}

@@ -1,11 +1,11 @@
 -- To be believed. CR 5 of document 02, by cases: "The alarm must beat the trend line", equal ranks, higher ranks that do not match, the scanning side, refusals, and the book's search.
-use Rattle.std.specs.Prelude.{map}
+use Rattle.std.specs.Prelude.{map, ◌≡◌, ◌∷◌, ◌++◌}
 use Rattle.alternative.specs.Guards.{of_kind, of_rank}
 use Rattle.rendezvous.specs.Table.{fresh_table}
 use Rattle.rendezvous.specs.Numbers.{Said, made, ticket, outcome, refusal}
 use Rattle.rendezvous.specs.Run.{Call, Offer, Step, Collect}
 use Rattle.rendezvous.specs.Commands.{Do}
-use Rattle.history.specs.Types.{ℕ, ◌≡◌, false, List, [], ◌∷◌, ◌++◌, some, none, replicate, Message, Action, Guard}
+use Rattle.history.specs.Types.{ℕ, false, List, [], some, none, replicate, Message, Action, Guard}
 use Rattle.history.specs.Book.{Moment, Joined, empty_history, ◌>>=◌}
 use Rattle.history.specs.Machine.{book_after_all, made_by_all}
 use Rattle.history.specs.Tables.{tables}

@@ -1,11 +1,11 @@
 -- To be believed. CR 6 of document 02, by cases: where its part of refusal 7 begins, what counts as open, which calls count, and what a commit on a damaged table may leave.
-use Rattle.std.specs.Prelude.{map}
+use Rattle.std.specs.Prelude.{map, ◌≡◌, ◌∷◌, ◌++◌}
 use Rattle.process.specs.declared.Signal.{Signal}
 use Rattle.process.specs.Process.{fresh_process}
 use Rattle.rendezvous.specs.Table.{with_head, fresh_table, open_offers}
 use Rattle.rendezvous.specs.Numbers.{refusal}
 use Rattle.rendezvous.specs.Run.{Call, Offer, Step, Collect, Withdraw, table_after_all}
-use Rattle.history.specs.Types.{ℕ, ◌≡◌, Bool, true, false, List, [], ◌∷◌, ◌++◌, some, none, replicate, Message, Place, ProcessTable}
+use Rattle.history.specs.Types.{ℕ, Bool, true, false, List, [], some, none, replicate, Message, Place, ProcessTable}
 use Rattle.history.specs.Cases.{Case, Hold, collects, steps, receive, send, reading, at, session_calls}
 use Rattle.history.specs.Further.{by_hand, table}
 

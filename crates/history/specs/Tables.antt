@@ -1,9 +1,10 @@
 -- To be believed. The table of documents 01 and 02 as a machine: the moments that its calls make, and its open offers, told from the tables alone.
+use Rattle.std.specs.Prelude.{◌&&◌, ◌∷◌}
 use Rattle.process.specs.Process.{is_at, if_committed, own_list, own_guard, posted_guard}
 use Rattle.rendezvous.specs.Table.{process, has_open_offer}
 use Rattle.rendezvous.specs.Calls.{Quiescent}
 use Rattle.rendezvous.specs.Run.{Call, Offer, Step, Collect, Withdraw, said_to, table_after}
-use Rattle.history.specs.Types.{ℕ, not, ◌&&◌, cond, List, [], ◌∷◌, Option, some, none, Place, Process, ProcessTable}
+use Rattle.history.specs.Types.{ℕ, not, cond, List, [], Option, some, none, Place, Process, ProcessTable}
 use Rattle.history.specs.Book.{Transaction, Moment, Joined, Withdrew, senders_message}
 use Rattle.history.specs.Machine.{Machine}
 

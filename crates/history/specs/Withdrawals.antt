@@ -1,11 +1,11 @@
 -- To be believed. CR 1 of document 02, by cases: the answer at every place, what a withdrawal leaves, its refusals in order, the race with a commit, and the run of whole meetings.
-use Rattle.std.specs.Prelude.{map}
+use Rattle.std.specs.Prelude.{map, ◌≡◌, ◌∷◌, ◌++◌}
 use Rattle.process.specs.declared.Signal.{Signal}
 use Rattle.rendezvous.specs.Table.{with_head, with_withdrawal, fresh_table}
 use Rattle.rendezvous.specs.Numbers.{Said, made, ticket, outcome, withdrawn, too_late, refusal}
 use Rattle.rendezvous.specs.Run.{Call, Offer, Step, Collect, Withdraw, table_after}
 use Rattle.rendezvous.specs.Commands.{Command, Do}
-use Rattle.history.specs.Types.{ℕ, ◌≡◌, Bool, true, false, List, [], ◌∷◌, ◌++◌, some, none, replicate, Message, Place, ProcessTable}
+use Rattle.history.specs.Types.{ℕ, Bool, true, false, List, [], some, none, replicate, Message, Place, ProcessTable}
 use Rattle.history.specs.Book.{Moment, Joined, Withdrew, empty_history, ◌>>=◌}
 use Rattle.history.specs.Machine.{book_after_all, made_by_all}
 use Rattle.history.specs.Tables.{tables}

@@ -5,8 +5,8 @@ ghost use Rattle.std.specs.Prelude.{◌≤◌, ◌≡◌, take};
 ghost use Rattle.rendezvous.specs.Calls.{offer};
 
 use alternative::{Action, Guard, Message};
-use libc::STDOUT_FILENO;
 use rendezvous::{Answer, ProcessTable, Reply};
+use std::io::Stdout;
 
 // Offers the first guards of an array, lent as a slice.
 fn lend(table: ProcessTable, p: u8, guards: [Guard; 9], count: usize) -> Reply
@@ -28,47 +28,52 @@ fn nine_guards() -> [Guard; 9] {
     [guard; 9]
 }
 
-fn print(text: &[u8]) {
-    io::write_all(STDOUT_FILENO, text);
+fn print(text: &[u8], stdout: Stdout) {
+    let _ = stdout.write_all(text);
 }
 
-fn print_answer(answer: Answer) {
+fn print_decimal(number: u64, stdout: Stdout) {
+    let _ = stdout.print(number);
+}
+
+fn print_answer(answer: Answer, stdout: Stdout) {
     match answer {
         Answer::Offered(ticket) => {
-            print(b"ticket ");
-            io::print_decimal(STDOUT_FILENO, ticket.0 as u64);
+            print(b"ticket ", stdout);
+            print_decimal(ticket.0 as u64, stdout);
         }
         Answer::Refused(refusal) => {
-            print(b"refused by ");
-            io::print_decimal(STDOUT_FILENO, refusal.number() as u64);
+            print(b"refused by ", stdout);
+            print_decimal(refusal.number() as u64, stdout);
         }
-        Answer::Made => print(b"made"),
-        Answer::Moved(_) => print(b"moved"),
-        Answer::Unchanged => print(b"unchanged"),
-        Answer::Collected(_, _, _) => print(b"collected"),
-        Answer::Withdrawn => print(b"withdrawn"),
-        Answer::TooLate => print(b"too late"),
-        Answer::Runnable(_) => print(b"runnable"),
+        Answer::Made => print(b"made", stdout),
+        Answer::Moved(_) => print(b"moved", stdout),
+        Answer::Unchanged => print(b"unchanged", stdout),
+        Answer::Collected(_, _, _) => print(b"collected", stdout),
+        Answer::Withdrawn => print(b"withdrawn", stdout),
+        Answer::TooLate => print(b"too late", stdout),
+        Answer::Runnable(_) => print(b"runnable", stdout),
     }
 }
 
 // Offers so many guards for process p, and prints what is answered.
-fn offered(table: ProcessTable, p: u8, count: usize) -> ProcessTable
+fn offered(table: ProcessTable, p: u8, count: usize, stdout: Stdout) -> ProcessTable
     requires { count ≤ 9 }
 {
     let reply = lend(table, p, nine_guards(), count);
-    print(b"guards ");
-    io::print_decimal(STDOUT_FILENO, count as u64);
-    print(b": ");
+    print(b"guards ", stdout);
+    print_decimal(count as u64, stdout);
+    print(b": ", stdout);
     let answer = reply.answer;
-    print_answer(answer);
-    print(b"\n");
+    print_answer(answer, stdout);
+    print(b"\n", stdout);
     reply.table
 }
 
-fn main() {
+fn main(rt: HostRuntime) {
+    let stdout = rt.stdout();
     let made = ProcessTable::create(4, 1);
     let fresh = made.table;
-    let one = offered(offered(fresh, 0, 0), 0, 1);
-    offered(offered(one, 1, 8), 2, 9);
+    let one = offered(offered(fresh, 0, 0, stdout), 0, 1, stdout);
+    offered(offered(one, 1, 8, stdout), 2, 9, stdout);
 }

@@ -1,4 +1,4 @@
--- One pass of the loop, the passes so far, and the end of the input.
+-- One pass of the loop, and the passes so far.
 use Prim.Native.Nat.{ℕ, zero, suc, ◌+◌, ◌-◌, ◌≤◌, ◌<◌}
 use mathlib.Core.Path.{◌≡◌, refl, sym, ◌∙◌, subst}
 use mathlib.Core.Bool.{Bool, true, false, cond}
@@ -12,16 +12,12 @@ use lib.Signed.{lt_z, mag}
 use mir.Syntax.{w64}
 use mir.Val.{of_z, to_z}
 use mir.Facts.{to_z-of_z}
-use Rattle.io.specs.Counts.{clamp_len}
-use Rattle.libc.specs.Io.{Moved}
 use Rattle.script.specs.Feeding.{SessionState, state_held, fed, fed_pieces}
-use Rattle.script.proofs.Lists.{take-most}
-use Rattle.passes.specs.declared.Status.{Status}
 use Rattle.passes.specs.declared.Status.TheVariants.{Going, Ended, Unreadable, Unwritable, Endless}
 use Rattle.passes.specs.declared.Progress.{Progress}
-use Rattle.passes.specs.Turns.{Pass, count, piece_of, after_read, after_write, is_going, is_ended, status_of, pieces, status_after, AllPasses, AtEnd}
+use Rattle.passes.specs.Turns.{Moved, Pass, count, piece_of, after_read, after_write, is_going, status_of, pieces, status_after, AllPasses}
 
--- what `read` returned, by its sign
+-- what a read answered, by its sign
 pub read-failed : (z : ℤ) → lt_z z (pos 0) ≡ true → Unreadable ≡ after_read z
 unfolding after_read
 read-failed (pos n) e = absurd (omega (arith, ltb-true n 0 e))
@@ -39,25 +35,18 @@ read_some (pos zero) e h = absurd (h refl)
 read_some (pos (suc n)) e h = refl
 read_some (negsuc n) e h = absurd (subst T e tt)
 
--- what `read` returned is what the functions that are passed it get
+-- what a read answered is what the functions that are passed it get
 pub passed_on : (z : ℤ) → mag z < 9223372036854775808 → to_z w64 (of_z w64 z) ≡ z
 passed_on z h = to_z-of_z {w = w64} {z = z} record { sfits = h }
 
--- the pass of a read, by what libc promises of it
-abbrev pub pass_of : (got : ℤ) (lent : ℕ) (buffer : List ℕ) → length buffer ≡ lent → Moved lent got → Bool → Pass
-pass_of got lent buffer l m written = record { got = got; buffer = buffer; written = written; moved = subst (λ (n : ℕ). Moved n got) (sym l) m }
+-- the pass of a read, by what it promises
+abbrev pub pass_of : (got : ℤ) (buffer : List ℕ) → Moved (length buffer) got → Bool → Pass
+pass_of got buffer m written = record { got = got; buffer = buffer; written = written; moved = m }
 
 -- the bytes that were counted are those that were read
-counted : (p : Pass) → take (clamp_len p.got (length p.buffer)) p.buffer ≡ piece_of p
+pub counted-fed : (s : SessionState) (p : Pass) (n : ℕ) → n ≡ count p.got → (fed s (take n p.buffer)).state ≡ (fed s (piece_of p)).state
 unfolding piece_of
-counted p = go p.got
-  where
-    go : (z : ℤ) → take (clamp_len z (length p.buffer)) p.buffer ≡ take (count z) p.buffer
-    go (pos n) = take-most p.buffer n (length p.buffer) refl
-    go (negsuc n) = refl
-
-pub counted-fed : (s : SessionState) (p : Pass) (n : ℕ) → n ≡ clamp_len p.got (length p.buffer) → (fed s (take n p.buffer)).state ≡ (fed s (piece_of p)).state
-counted-fed s p n e = rw (e, counted p)
+counted-fed s p n e = rw e
 
 -- a pass whose read does not go on feeds nothing
 pub pass-stops : (s : SessionState) (p : Pass) → is_going (after_read p.got) ≡ false → (after_read p.got ≡ status_of p) × (s ≡ (fed s (piece_of p)).state)
@@ -152,10 +141,3 @@ module _ (s here : SessionState) (left : ℕ) (so_far : SoFar s here left) where
     λ q. rw append-nil (omega (arith, so_far.counted)),
     λ silent q. let z : ◌≡◌ {A = ℕ} 0 1 = cc in omega arith,
   )
-
--- the last status, before the end of the input and at it
-pub before-end : (status : Status) → is_ended status ≡ false → AtEnd status status
-before-end status e = (true, rw e)
-
-pub at-end : (before after : Status) (written : Bool) → is_ended before ≡ true → after ≡ after_write before written → AtEnd before after
-at-end before after written e h = (written, rw e h)

@@ -1,16 +1,20 @@
 -- To be believed. What the programs make of what the operating system answers. Of `read` and `write` the language's contracts say how many bytes they moved, and nothing
 -- of which bytes those were. So a pass of a program's loop is what the system answered in it, and the definitions say how the program goes on. The contracts say that
 -- some passes explain where the program stands: that they are those it had is to be read in reading.rt.
-use Rattle.std.specs.Prelude.{ℕ, zero, suc, ◌≡◌, Bool, true, false, cond, List, [], ◌∷◌, ℤ, pos, negsuc, length, take}
+use Rattle.std.specs.Prelude.{ℕ, zero, suc, ◌≡◌, Bool, true, false, cond, List, [], ◌∷◌, ◌≤◌, ℤ, pos, negsuc, length, take}
 use Rattle.text.specs.Ascii.{bytes}
-use Rattle.libc.specs.Io.{Moved}
 use Rattle.script.specs.Feeding.{SessionState, state_held, fed, fed_pieces}
 use Rattle.passes.specs.declared.Status.{Status}
 use Rattle.passes.specs.declared.Status.TheVariants.{Going, Ended, Unreadable, Unwritable, Endless}
 use Rattle.passes.specs.declared.Progress.{Progress}
 
--- what `read` returned, the buffer after it, and whether all that the piece prints was written, which counts as true where the program throws it away; libc promises
--- that `read` returns -1, or no more than the buffer has
+-- what a read into n bytes may answer: -1 where it failed, or how many bytes it brought, at most n
+abbrev pub Moved : ℕ → ℤ → Type 0
+Moved n (pos k) = k ≤ n
+Moved n (negsuc k) = k ≡ 0
+
+-- what a read answered, the buffer after it, and whether all that the piece prints was written, which counts as true where the program throws it away; std promises
+-- that a read fails, or brings no more than the buffer has
 pub record Pass : Type 0 where
   pub got : ℤ
   pub buffer : List ℕ

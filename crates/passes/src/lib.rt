@@ -14,7 +14,7 @@ mod telling;
 mod writing;
 
 pub use answers::{after_write, has_ended};
-pub use reading::{output_buffer, read_all};
+pub use reading::{input_buffer, output_buffer, read_all};
 pub use telling::tell;
 pub use writing::write_text;
 
@@ -28,7 +28,7 @@ pub enum Status {
     Endless,
 }
 
-#[derive(Drop)]
+#[derive(Clone, Copy)]
 pub struct Progress {
     pub status: Status,
     pub session: Session,

@@ -1,7 +1,8 @@
 -- To be believed. Document 01, "What turns a call away", refusal 7, and CR 3 of document 02: what it asks of each record. The quoted conditions are those that fail.
+use Rattle.std.specs.Prelude.{◌&&◌, ◌∷◌}
 use Rattle.alternative.specs.Guards.{most_guards}
 use Rattle.process.specs.Process.{carried}
-use Rattle.process.specs.Types.{ℕ, Bool, true, not, ◌&&◌, List, [], ◌∷◌, take, eqb, ltb, leb, Guard, Signal, Place, Process}
+use Rattle.process.specs.Types.{ℕ, Bool, true, not, List, [], take, eqb, ltb, leb, Guard, Signal, Place, Process}
 
 -- every guard of a list passes a test
 unfoldable pub all_guards : (Guard → Bool) → List Guard → Bool

@@ -1,5 +1,5 @@
 -- To be believed. CR 3 of document 02, as a claim about the rules: "The comparison with the step table is against this rule 2; d = 1 gives the old one".
-use Rattle.alternative.specs.Types.{◌≡◌}
+use Rattle.std.specs.Prelude.{◌≡◌}
 use Rattle.process.specs.Types.{ℕ, false, Place, Process}
 use Rattle.process.specs.Process.{is_at}
 use Rattle.process.specs.Rules.{rule_at}

@@ -1,8 +1,8 @@
 -- To be believed. Document 01, "The desk and its tasks" and "Calls": for every place its letter, guard index and word, and whether an offer is open there, line by line.
-use Rattle.std.specs.Prelude.{map}
-use Rattle.alternative.specs.Types.{Char, ◌≡◌}
+use Rattle.std.specs.Prelude.{map, ◌≡◌, ◌∷◌}
+use Rattle.alternative.specs.Types.{Char}
 use Rattle.alternative.specs.declared.Message.{Message}
-use Rattle.process.specs.Types.{ℕ, code, Bool, true, false, List, [], ◌∷◌, Option, some, none, Place, State}
+use Rattle.process.specs.Types.{ℕ, code, Bool, true, false, List, [], Option, some, none, Place, State}
 use Rattle.process.specs.Process.{letter_of, state_of, index_of, open_at}
 
 -- what is told of a place; open offers by the wake count, 0 and 1

@@ -1,7 +1,8 @@
 -- To be believed. Document 01, "The desk and its tasks", and what CR 3 of document 02 lets S carry: the words, a record and its lists, a fresh record; and from "Calls": an open offer.
+use Rattle.std.specs.Prelude.{◌&&◌, ◌||◌}
 use Prim.Native.String.{[] as end, ◌∷◌ as ◌then◌}
 use Rattle.alternative.specs.Guards.{most_guards, blank}
-use Rattle.process.specs.Types.{ℕ, code, String, Bool, false, ◌&&◌, ◌||◌, eqb, List, [], Option, some, none, get_or, take, replicate, Message, Guard, Signal, Place, State, Process}
+use Rattle.process.specs.Types.{ℕ, code, String, Bool, false, eqb, List, [], Option, some, none, get_or, take, replicate, Message, Guard, Signal, Place, State, Process}
 
 -- "I idle, E entering, M met", "A scanning, T trying, C committed, P posting, O opening, H showing", "S asleep", "W waiting"
 abbrev pub letter_of : Place → ℕ

@@ -1,7 +1,8 @@
 -- To be believed. Document 01, "The fifteen step rules", with rules 2 and 7 as CRs 3 and 5 of document 02 have them.
+use Rattle.std.specs.Prelude.{◌+◌}
 use Rattle.alternative.specs.Guards.{kept_match, next_enabled}
 use Rattle.alternative.specs.Exchange.{sent_by, received_by}
-use Rattle.process.specs.Types.{ℕ, suc, ◌+◌, Bool, true, false, Option, some, none, ltb, Found, Signal, Place, State, Process}
+use Rattle.process.specs.Types.{ℕ, suc, Bool, true, false, Option, some, none, ltb, Found, Signal, Place, State, Process}
 use Rattle.process.specs.Process.{state_of, index_of, own_list, posted_list, own_guard, posted_guard}
 
 -- What a rule changes: neither record, that of the process that steps, or both, its own and its partner's.

@@ -1,12 +1,13 @@
 -- To be believed. A call of one process in two parts, for code that keeps a table in its place: the call's act, from what it reads of the table, and how that is carried out.
 -- It reads what the form test has found of the records, the head h, the record x of process p, and for a step the record y of the partner q.
+use Rattle.std.specs.Prelude.{◌+◌, ◌≡◌}
 use Rattle.process.specs.declared.Signal.{Signal}
 use Rattle.process.specs.declared.Change.{Change}
 use Rattle.process.specs.Process.{own_guard}
 use Rattle.process.specs.Rules.{changed, at_place, rule, partner_of}
 use Rattle.process.specs.InCode.{change_of, outcome_of}
 use Rattle.rendezvous.specs.declared.{Form.Form, Act.Act}
-use Rattle.rendezvous.specs.Types.{ℕ, ◌+◌, ◌≡◌, Bool, true, false, cond, set, GuardList, Place, Process, Head, ProcessTable, Refusal, Verdict, Answer}
+use Rattle.rendezvous.specs.Types.{ℕ, Bool, true, false, cond, set, GuardList, Place, Process, Head, ProcessTable, Refusal, Verdict, Answer}
 use Rattle.rendezvous.specs.Types.{Reply}
 use Rattle.rendezvous.specs.Table.{process, with_next, with_withdrawal}
 use Rattle.rendezvous.specs.WellFormed.{well_formed}

@@ -1,8 +1,9 @@
 -- To be believed. Document 01, "Calls", and CRs 1, 3 and 6 of document 02: what each call answers, and the table that it hands back.
+use Rattle.std.specs.Prelude.{◌+◌, ◌≡◌, ◌&&◌, ◌||◌}
 use Rattle.alternative.specs.Guards.{slots, lent}
 use Rattle.process.specs.Process.{is_at, if_met, own_guard}
 use Rattle.process.specs.Rules.{Effect, Neither, Own, Both, changed, at_place, rule, partner_of}
-use Rattle.rendezvous.specs.Types.{ℕ, ◌+◌, ◌≡◌, Bool, true, false, not, ◌&&◌, ◌||◌, cond, List, take, Guard, GuardList, TransactionId, Place, Process, Head, ProcessTable, Refusal, Verdict, Answer, Reply}
+use Rattle.rendezvous.specs.Types.{ℕ, Bool, true, false, not, cond, List, take, Guard, GuardList, TransactionId, Place, Process, Head, ProcessTable, Refusal, Verdict, Answer, Reply}
 use Rattle.rendezvous.specs.Table.{process, put, with_head, with_next, with_meeting, with_withdrawal, fresh_table}
 use Rattle.rendezvous.specs.Refusals.{create_verdict, process_verdict, offer_verdict, withdraw_verdict}
 

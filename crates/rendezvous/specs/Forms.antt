@@ -1,9 +1,10 @@
 -- To be believed. Refusal 7 for code that keeps a table in its place: the test in three parts, from the head, from a record at a time, and at the end.
+use Rattle.std.specs.Prelude.{◌+◌, ◌*◌, ◌-◌, ◌≡◌, ◌&&◌}
 use Rattle.process.specs.Process.{is_open}
 use Rattle.process.specs.Fits.{process_fits}
 use Rattle.process.specs.Rules.{partner_of}
 use Rattle.rendezvous.specs.declared.Form.{Form}
-use Rattle.rendezvous.specs.Types.{ℕ, zero, suc, ◌+◌, ◌*◌, ◌-◌, ◌≡◌, Bool, ◌&&◌, cond, leb, Process, Head, ProcessTable}
+use Rattle.rendezvous.specs.Types.{ℕ, zero, suc, Bool, cond, leb, Process, Head, ProcessTable}
 use Rattle.rendezvous.specs.Table.{process}
 use Rattle.rendezvous.specs.WellFormed.{count_fits, nap_fits, well_formed}
 

@@ -1,7 +1,7 @@
 -- To be believed. Document 01, "Calls": movers; and, as a claim about the definitions, what the set tells of the steps and of rest.
-use Rattle.std.specs.Prelude.{◌/◌, ◌%◌}
+use Rattle.std.specs.Prelude.{◌/◌, ◌%◌, ◌+◌, ◌^◌, ◌≡◌}
 use Rattle.process.specs.Rules.{changes}
-use Rattle.rendezvous.specs.Types.{ℕ, zero, suc, ◌+◌, ◌^◌, ◌≡◌, Bool, true, cond, ProcessTable, Answer, Reply}
+use Rattle.rendezvous.specs.Types.{ℕ, zero, suc, Bool, true, cond, ProcessTable, Answer, Reply}
 use Rattle.rendezvous.specs.WellFormed.{well_formed}
 use Rattle.rendezvous.specs.Refusals.{table_verdict}
 use Rattle.rendezvous.specs.Calls.{if_accepted, effect_on, step, Quiescent}

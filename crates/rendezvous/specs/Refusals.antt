@@ -1,9 +1,10 @@
 -- To be believed. Document 01, "What turns a call away": what each call is tested for, in order. 13, of a collection alone, is in Calls. And CRs 1 and 3 of document 02.
+use Rattle.std.specs.Prelude.{◌&&◌, ◌∷◌}
 use Rattle.alternative.specs.Guards.{most_guards, any_guard}
 use Rattle.alternative.specs.Exchange.{action_holds_nan}
 use Rattle.process.specs.Process.{is_at, is_idle}
 use Rattle.process.specs.Fits.{partner_fits}
-use Rattle.rendezvous.specs.Types.{ℕ, Bool, true, false, not, ◌&&◌, List, [], ◌∷◌, take, ltb, leb, Guard, GuardList, TransactionId, Place, Head, ProcessTable, Refusal, Verdict}
+use Rattle.rendezvous.specs.Types.{ℕ, Bool, true, false, not, List, [], take, ltb, leb, Guard, GuardList, TransactionId, Place, Head, ProcessTable, Refusal, Verdict}
 use Rattle.rendezvous.specs.Table.{last_transaction, process}
 use Rattle.rendezvous.specs.WellFormed.{count_fits, nap_fits, well_formed}
 

@@ -1,7 +1,8 @@
 -- To be believed. Document 01, "Calls", and CR 1 of document 02: the calls as values, what a call says and leaves; and from demand 3 of document 00: lists of calls, each getting what the last one left.
+use Rattle.std.specs.Prelude.{◌∷◌}
 use Rattle.rendezvous.specs.Calls.{offer, step, collect, withdraw}
 use Rattle.rendezvous.specs.Numbers.{Said, said}
-use Rattle.rendezvous.specs.Types.{ℕ, List, [], ◌∷◌, Guard, ProcessTable, Reply}
+use Rattle.rendezvous.specs.Types.{ℕ, List, [], Guard, ProcessTable, Reply}
 
 -- the calls of one process
 pub data Call : Type 0 where

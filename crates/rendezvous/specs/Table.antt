@@ -1,6 +1,7 @@
 -- To be believed. Document 01, "The desk and its tasks", and CRs 3 and 6 of document 02: the head and the records of a table, a fresh one; and from "Calls": open offers, and how many there are.
+use Rattle.std.specs.Prelude.{◌+◌, ◌*◌, ◌&&◌}
 use Rattle.process.specs.Process.{nobody, fresh_process, is_open}
-use Rattle.rendezvous.specs.Types.{ℕ, zero, suc, ◌+◌, ◌*◌, Bool, ◌&&◌, cond, replicate, get_or, set, ltb, Process, Head, ProcessTable}
+use Rattle.rendezvous.specs.Types.{ℕ, zero, suc, Bool, cond, replicate, get_or, set, ltb, Process, Head, ProcessTable}
 
 -- the most processes, and the ticket that is never given out
 abbrev pub most_processes : ℕ

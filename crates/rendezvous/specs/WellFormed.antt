@@ -1,7 +1,8 @@
 -- To be believed. Document 01, "What turns a call away", refusal 7, and CRs 3 and 6 of document 02: it is given exactly where `well_formed` is false.
+use Rattle.std.specs.Prelude.{◌&&◌}
 use Rattle.process.specs.Rules.{partner_of}
 use Rattle.process.specs.Fits.{process_fits}
-use Rattle.rendezvous.specs.Types.{ℕ, zero, suc, Bool, true, ◌&&◌, leb, ProcessTable}
+use Rattle.rendezvous.specs.Types.{ℕ, zero, suc, Bool, true, leb, ProcessTable}
 use Rattle.rendezvous.specs.Table.{most_processes, process, accounted_for}
 
 -- every number below n passes a test

@@ -1,5 +1,6 @@
 -- To be believed. CR 1 of document 02, as a claim about the definitions: a withdrawal is answered "withdrawn" exactly where an offer is open, which then is open no more.
-use Rattle.rendezvous.specs.Types.{ℕ, ◌≡◌, false, cond, ProcessTable, Verdict, Answer}
+use Rattle.std.specs.Prelude.{◌≡◌}
+use Rattle.rendezvous.specs.Types.{ℕ, false, cond, ProcessTable, Verdict, Answer}
 use Rattle.rendezvous.specs.Table.{has_open_offer}
 use Rattle.rendezvous.specs.Refusals.{withdraw_verdict}
 use Rattle.rendezvous.specs.Calls.{withdraw}

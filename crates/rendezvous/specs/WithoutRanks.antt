@@ -1,9 +1,10 @@
 -- To be believed. CR 5 of document 02, a rank is "0 if left out": where no guard that is offered has a rank, rule 7 keeps the first guard that matches, as in document 01. The function
 -- `calls_without_ranks` carries this claim, of every list of calls. (Of rules, calls and book nothing else than this search looks at a rank.)
+use Rattle.std.specs.Prelude.{◌≡◌, ◌∷◌}
 use Rattle.alternative.specs.Guards.{kept_match}
 use Rattle.alternative.specs.Ranks.{AllOfRank, first_match}
 use Rattle.process.specs.Process.{posted_list}
-use Rattle.rendezvous.specs.Types.{ℕ, ◌≡◌, List, [], ◌∷◌, Guard, ProcessTable}
+use Rattle.rendezvous.specs.Types.{ℕ, List, [], Guard, ProcessTable}
 use Rattle.rendezvous.specs.Table.{process, fresh_table}
 use Rattle.rendezvous.specs.Run.{Call, Offer, Step, Collect, Withdraw, table_after_all}
 

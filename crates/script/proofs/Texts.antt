@@ -4,16 +4,13 @@ use mathlib.Core.Path.{◌≡◌, refl, ◌∙◌}
 use mathlib.Core.List.{List, [], ◌∷◌, ◌++◌}
 use mathlib.Core.Option.{Option, some, none}
 use native.Mathlib.Omega.{arith}
-use borrow.Author.Rules.{rules, length_unmapped}
+use borrow.Author.Rules.{rules}
 use lib.ListN.{length, length-append}
 use lib.Ieee.{binary32, to_bits}
 use mir.Val.{Val}
 use denote.Shadow.{shadow}
-use denote.Struct.Declared as declared
-use Rattle.text.specs.declared.Text.{Text}
-use Rattle.text.specs.Writing.{shown, capped, decimal_text, line_length}
-use Rattle.text.specs.contracts.Text as text
-use Rattle.text.proofs.Capped.{capped-short, shown-length}
+use Rattle.text.specs.Writing.{capped, decimal_text}
+use Rattle.text.proofs.Capped.{capped-short}
 use Rattle.text.proofs.Printed.{decimal-text-length, byte-text-length, whole-text-length, hex-text-length}
 use Rattle.rendezvous.specs.Numbers.{place, refusal_number, said}
 use Rattle.rendezvous.specs.contracts.Answer as answer
@@ -74,7 +71,3 @@ letter-capped letter e f = f ∙ rw e (capped-short (letter ∷ []) (omega arith
 
 pub refusal-capped : (k : ℕ) → capped (ended (refusal_text k)) ≡ ended (refusal_text k)
 refusal-capped k = capped-short (ended (refusal_text k)) (simp length-append (omega (arith, decimal-text-length k)))
-
--- what owning a text tells
-pub text-length : (t : Text) (vs : List Val) → shadow ((declared.row text.the_type).own t vs) → length (shown t) ≤ line_length
-text-length t vs o = shown-length t (search (length_unmapped, o))

@@ -11,6 +11,7 @@ use rendezvous::{
 };
 
 // A call of one process, from what was read of the table. A command with another verb does nothing here.
+#[tactic(auto, unfolding(crate::specs::Private::line_act))]
 pub fn line_act(command: Parsed, form: Form, head: Head, x: Process, q: u8, y: Process) -> Act
     ensures { result ≡ line_act command.verb command.number command.list form head x q y }
 {
@@ -46,6 +47,7 @@ pub fn is_refused(answer: Answer) -> bool
 }
 
 // The reply to `n`: a refused one keeps the old table.
+#[tactic(auto, unfolding(crate::specs::Private::new_reply))]
 pub fn created(table: ProcessTable, n: u8, nap: u8) -> Reply
     ensures { result ≡ new_reply table n nap }
 {

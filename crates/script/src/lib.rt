@@ -19,7 +19,7 @@ pub use output::least;
 
 // A session between two pieces of its input. `table` counts where `made` says so. The first `length` bytes of `bytes` are the begun
 // line; one byte more than a line may have tells an overlong one.
-#[derive(Drop)]
+#[derive(Clone, Copy)]
 pub struct Session {
     pub made: bool,
     pub length: usize,
@@ -28,7 +28,7 @@ pub struct Session {
 }
 
 // How many bytes of a piece were taken, how many bytes of the lent output were filled, and the session after them.
-#[derive(Drop)]
+#[derive(Clone, Copy)]
 pub struct Fed {
     pub taken: usize,
     pub filled: usize,

@@ -13,6 +13,7 @@ pub const MOST_BYTES: usize = 200;
 pub const BEGUN_BYTES: usize = MOST_BYTES + 1;
 
 // The command of a line that has ended.
+#[tactic(auto, unfolding(crate::specs::Lines::line_command))]
 pub fn line_command(line: &[u8]) -> Parsed
     ensures { result ≡ as_parsed (line_command (Line.Ended line.now)) }
 {

@@ -13,6 +13,7 @@ use rendezvous::Answer;
 use text::Text;
 
 // A message as a guard writes it.
+#[tactic(auto, unfolding(crate::specs::Printing::message_text))]
 fn message_text(text: Text, m: Message) -> Text
     ensures { shown result ≡ capped (shown text ++ message_text m) }
 {

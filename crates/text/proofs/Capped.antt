@@ -42,3 +42,16 @@ module _ (l : List ℕ) (m n b : ℕ) (e : length l ≡ m) where
 
   pub put-none : m ≤ n → take n l ≡ take m (take n l ++ b ∷ [])
   put-none h = sym (take_at (take n l) (b ∷ []) m (omega (arith, length-take n l)))
+
+-- a text with one byte more
+pub shown-more : (t : Text) (b : ℕ) → length t.bytes ≡ line_length → t.length < line_length
+    → shown (record { length = t.length + 1; bytes = set t.bytes t.length b }) ≡ capped (shown t ++ b ∷ [])
+unfolding shown capped
+shown-more t b e h = put-more t.bytes line_length t.length b e h
+
+-- and a full one
+pub shown-full : (t : Text) (b : ℕ) → length t.bytes ≡ line_length → line_length ≤ t.length → shown t ≡ capped (shown t ++ b ∷ [])
+unfolding shown capped
+shown-full t b e h = put-none t.bytes line_length t.length b e h
+
+pub ruleset one_more = (shown-more, shown-full)

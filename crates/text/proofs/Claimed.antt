@@ -1,5 +1,6 @@
 -- The tables of digits and the edge cases hold by computation, and what is printed is read back.
 use mathlib.Core.Path.{refl}
+use native.Mathlib.Omega.{arith}
 use Rattle.text.specs.Ascii.{bytes}
 use Rattle.text.specs.Digits.{place_from, hex_digit, hex_glyph}
 use Rattle.text.specs.Reading.{decimal_from, decimal, byte_number, whole, hex_from, hex_word}
@@ -51,4 +52,4 @@ edge-cases-hold = record {
 }
 
 pub read-back-holds : ReadBack
-read-back-holds = record { decimals = decimal-back; byte_numbers = byte-number-back; wholes = whole_back; hex_words = hex-word-back }
+read-back-holds = record { decimals = λ n h. decimal-back n (omega arith); byte_numbers = byte-number-back; wholes = whole_back; hex_words = hex-word-back }

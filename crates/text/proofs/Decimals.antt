@@ -9,8 +9,8 @@ use native.Mathlib.Omega.{arith}
 use native.Mathlib.Numerals.{add-one}
 use borrow.Author.Tests.{le-leb, lt-leb, eq-eqb, ne_eqb, leb-true, leb-false, lt-ltb}
 use lib.Dec.{leb}
-use lib.ListN.{length, get_or, drop, drop_of_length-le}
-use lib.Seq.{drop-cons}
+use lib.ListN.{length, get_or, take, drop, drop_of_length-le, length-drop}
+use lib.Seq.{drop-cons, take_all}
 use Rattle.text.specs.Types.{◌>>=◌}
 use Rattle.text.specs.Reading.{is_digit, decimal_from, decimal, provided, byte_number, whole}
 use Rattle.text.specs.Private.{in_word, positive_of, negative_of}
@@ -73,6 +73,11 @@ pub in-word : (a : ℕ) → a ≤ 4294967295 → in_word (some a) ≡ some a
 unfolding in_word
 in-word a h = rw (le-leb a 4294967295 h) refl
 
+-- where nothing was read
+pub word-none : in_word none ≡ none
+unfolding in_word
+word-none = refl
+
 -- where a narrower bound follows, the one of 32 bits changes nothing
 module _ {A : Type 0} (k : ℕ → Option A) (narrow : (n : ℕ) → 4294967295 < n → k n ≡ none) where
   bounded_at : (n : ℕ) (t : Bool) → leb n 4294967295 ≡ t → ◌>>=◌ (cond t (some n) none) k ≡ k n
@@ -108,6 +113,8 @@ decimal-more [] h k = absurd (omega arith)
 decimal-more (b ∷ []) h k = refl
 decimal-more (b ∷ d ∷ ds) h k = rw (ne_eqb b (code "0") k) refl
 
+pub ruleset decimals = (word-none, decimal-empty, decimal-zero, decimal-one, decimal-more)
+
 -- ---- the numbers of a script, from a decimal of 32 bits
 pub byte-number-of : (l : List ℕ) → byte_number l ≡ ◌>>=◌ (in_word (decimal l)) (λ n. provided (leb n 255) n)
 unfolding byte_number
@@ -129,3 +136,17 @@ unfolding whole positive_of
 whole-plus [] h e = absurd (omega arith)
 whole-plus (b ∷ bs) h e =
     rw (ne_eqb b (code "-") e) (sym (bounded positive_of (λ n g. rw (lt-leb n 2147483647 (omega arith))) (decimal (b ∷ bs))))
+
+-- by what was read: of the bytes after `-`, and of all bytes
+module _ (l : List ℕ) (h : 0 < length l) where
+  pub minus-none : get_or l 0 0 ≡ code "-" → none ≡ in_word (decimal (take (length l - 1) (drop 1 l))) → whole l ≡ none
+  minus-none e r = rw (whole-minus l h e, ← take_all (length l - 1) (drop 1 l) (omega (arith, length-drop 1 l)), ← r)
+
+  pub minus-some : (n : ℕ) → get_or l 0 0 ≡ code "-" → some n ≡ in_word (decimal (take (length l - 1) (drop 1 l))) → whole l ≡ negative_of n
+  minus-some n e r = rw (whole-minus l h e, ← take_all (length l - 1) (drop 1 l) (omega (arith, length-drop 1 l)), ← r)
+
+  pub plus-none : (get_or l 0 0 ≡ code "-" → ⊥) → none ≡ in_word (decimal l) → whole l ≡ none
+  plus-none e r = rw (whole-plus l h e, ← r)
+
+  pub plus-some : (n : ℕ) → (get_or l 0 0 ≡ code "-" → ⊥) → some n ≡ in_word (decimal l) → whole l ≡ positive_of n
+  plus-some n e r = rw (whole-plus l h e, ← r)

@@ -59,6 +59,8 @@ pub glyph-letter : (d : ℕ) → 10 ≤ d → d < 16 → hex_glyph d ≡ code "a
 unfolding numbers_from bytes hex_glyph
 glyph-letter d l h = each hex_glyph (λ e. code "a" + (e - 10)) 10 6 (d - 10) d refl (omega arith) (omega arith)
 
+pub ruleset glyphs = (glyph_decimal, glyph-letter)
+
 pub glyph-back : (d : ℕ) → d < 16 → hex_digit (hex_glyph d) ≡ some d
 unfolding numbers_from bytes place_from hex_digit hex_glyph
 glyph-back d h = each (λ e. hex_digit (hex_glyph e)) some 0 16 d d refl h (omega arith)
@@ -124,6 +126,8 @@ word-length l e = rw (eq-eqb (length l) 8 e) refl
 pub word-other : (l : List ℕ) → (length l ≡ 8 → ⊥) → hex_word l ≡ none
 unfolding hex_word
 word-other l e = rw (ne_eqb (length l) 8 e) refl
+
+pub ruleset other_words = (word-other)
 
 pub power-next : (i : ℕ) → 16 ^ (i + 1) ≡ 16 ^ i * 16
 power-next i = ap (λ (j : ℕ). 16 ^ j) (add-one i) ∙ pow-suc 16 i

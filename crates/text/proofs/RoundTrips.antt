@@ -75,13 +75,13 @@ unfolding decimal_up_to
 head zero n = record { there = omega arith; digit = omega arith; lead = λ a b e. omega arith }
 head (suc k) n = rw (pow-suc 10 (suc k)) (head_at n (10 ^ suc k) (decimal_up_to k (n / 10)) (ltb n 10) refl (head k (n / 10)))
 
-pub decimal-back : (n : ℕ) → n ≤ 18446744073709551615 → decimal (decimal_text n) ≡ some n
+-- each number of as many digits as are printed
+pub decimal-back : (n : ℕ) → n < 10 ^ 20 → decimal (decimal_text n) ≡ some n
 unfolding decimal_up_to decimal_from decimal
 decimal-back zero h = refl
 decimal-back (suc n) h =
     let first = head 19 (suc n) in
-    let few : suc n < 10 ^ 20 = omega arith in
-    decimal-more (decimal_text (suc n)) first.there (first.lead (omega arith) few) ∙ value 19 (suc n) few
+    decimal-more (decimal_text (suc n)) first.there (first.lead (omega arith) h) ∙ value 19 (suc n) h
 
 -- ---- the numbers of a script
 pub byte-number-back : (n : ℕ) → n ≤ 255 → byte_number (decimal_text n) ≡ some n

@@ -35,6 +35,7 @@ fn read_digits(s: &[u8]) -> Number
 }
 
 // The same without leading zeros, and with one digit at least.
+#[tactic(auto, using(crate::proofs::Decimals::decimals))]
 fn read_decimal(s: &[u8]) -> Number
     ensures { number_read result ≡ in_word (decimal s.now) }
 {
@@ -98,6 +99,7 @@ fn hex_digit(b: u8) -> Number
 }
 
 // Eight lower-case hexadecimal digits.
+#[tactic(auto, using(crate::proofs::Hexadecimals::other_words))]
 pub fn read_hex_word(s: &[u8]) -> Number
     ensures { number_read result ≡ hex_word s.now }
 {

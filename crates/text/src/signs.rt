@@ -6,6 +6,7 @@ ghost use Rattle.text.specs.Private.{positive_of, negative_of};
 use crate::Whole;
 
 // n as a signed number.
+#[tactic(auto, using(crate::proofs::Integers::signed))]
 pub fn positive(n: u32) -> Whole
     ensures { whole_read result ≡ positive_of n }
 {
@@ -17,6 +18,7 @@ pub fn positive(n: u32) -> Whole
 }
 
 // -n as a signed number. There is no -0.
+#[tactic(auto, using(crate::proofs::Integers::signed))]
 pub fn negative(n: u32) -> Whole
     ensures { whole_read result ≡ negative_of n }
 {

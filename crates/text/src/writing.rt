@@ -7,6 +7,7 @@ use crate::signs::magnitude;
 use crate::{LINE_BYTES, Text};
 
 // The digit of a value below 16, by arithmetic; below 10 it is the decimal digit as well.
+#[tactic(auto, using(crate::proofs::Hexadecimals::glyphs))]
 fn glyph(d: u64) -> u8
     requires { d < 16 }
     ensures { result ≡ hex_glyph d }
@@ -29,6 +30,7 @@ impl Text {
         }
     }
 
+    #[tactic(auto, using(crate::proofs::Capped::one_more))]
     pub fn byte(mut self, b: u8) -> Text
         ensures { shown result ≡ capped (shown self ++ b ∷ []) }
     {

@@ -1,8 +1,9 @@
 -- To be believed. That a table is read back from its bytes: `reads_back` carries it of any table that is held, and `encode` of every table of the code. `guard_as_bytes`, `head_as_bytes` and `nap_as_bytes` carry the bytes of a guard, of a head and of a sleeper.
+use Rattle.std.specs.Prelude.{◌^◌, ◌<◌, ◌≡◌, ◌∷◌, ◌++◌}
 use Rattle.alternative.specs.Guards.{most_guards}
 use Rattle.process.specs.Process.{if_met}
 use Rattle.rendezvous.specs.Table.{most_processes}
-use Rattle.wire.specs.Types.{ℕ, ◌^◌, ◌<◌, ◌≡◌, true, List, [], ◌∷◌, ◌++◌, length, T, Float, binary32, w32, SFits, Message, Action, Guard, Signal}
+use Rattle.wire.specs.Types.{ℕ, true, List, [], length, T, Float, binary32, w32, SFits, Message, Action, Guard, Signal}
 use Rattle.wire.specs.Types.{Place, Process, Head, ProcessTable}
 use Rattle.wire.specs.Layout.{table_length}
 use Rattle.wire.specs.Reading.{guard_of, place_of, head_of, table_of}

@@ -1,7 +1,8 @@
 -- To be believed. How many bytes each part of a table takes, and where it stands in what holds it. The first part stands at 0; a part without a name here is one byte, and stands behind the one before it.
+use Rattle.std.specs.Prelude.{◌+◌, ◌*◌, ◌≡◌}
 use Rattle.alternative.specs.Guards.{most_guards}
 use Rattle.rendezvous.specs.Table.{most_processes}
-use Rattle.wire.specs.Types.{ℕ, ◌+◌, ◌*◌, ◌≡◌}
+use Rattle.wire.specs.Types.{ℕ}
 
 -- a word, which is a number of 32 bits, and a number of 64 bits, which is two words
 abbrev pub word_length : ℕ

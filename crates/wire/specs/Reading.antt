@@ -1,10 +1,11 @@
 -- To be believed. The bytes of a table, read: any bytes are a table. Too few are read as if zeros followed, and what follows a whole table is passed over. A tag past the
 -- last variant's is read as the last variant, and any byte but 0 as true.
+use Rattle.std.specs.Prelude.{◌+◌, ◌*◌, ◌/◌, ◌^◌, ◌∷◌}
 use Rattle.alternative.specs.Guards.{most_guards}
 use Rattle.rendezvous.specs.Table.{most_processes}
 use Rattle.wire.specs.Layout.{first_at, second_at, sent_at, action_at, outcome_at, signalled_at, guard_length, word_length, next_at, meetings_at, withdrawn_at, head_length, record_length}
 use Rattle.wire.specs.Layout.{signal_at, ticket_at, accepting_at, count_at, altcount_at, guards_at, altlist_at}
-use Rattle.wire.specs.Types.{ℕ, zero, suc, ◌+◌, ◌*◌, ◌/◌, ◌^◌, not, List, [], ◌∷◌, length, get_or, drop, eqb, binary32, of_bits, w32, to_z, Message, Action}
+use Rattle.wire.specs.Types.{ℕ, zero, suc, not, List, [], length, get_or, drop, eqb, binary32, of_bits, w32, to_z, Message, Action}
 use Rattle.wire.specs.Types.{Guard, Signal, Place, Process, Head, ProcessTable}
 
 abbrev pub byte : List ℕ → ℕ → ℕ

@@ -1,5 +1,6 @@
 -- To be believed. The bytes of a table, written, in the order in which Reading reads them.
-use Rattle.wire.specs.Types.{ℕ, ◌/◌, ◌%◌, ◌^◌, Bool, cond, List, [], ◌∷◌, ◌++◌, flatten, length, drop, leb, binary32, to_bits, w32, of_z, Message, Action}
+use Rattle.std.specs.Prelude.{◌/◌, ◌%◌, ◌^◌, ◌∷◌, ◌++◌}
+use Rattle.wire.specs.Types.{ℕ, Bool, cond, List, [], flatten, length, drop, leb, binary32, to_bits, w32, of_z, Message, Action}
 use Rattle.wire.specs.Types.{Guard, Signal, Place, Process, Head, ProcessTable}
 
 abbrev pub flag : Bool → ℕ

@@ -12,8 +12,8 @@ compare fuzz SECONDS                    the same as fuzz --seconds SECONDS
 compare all [--seconds N] [--seed S]    every part, N seconds in all
 compare long MINUTES                    every part again and again with fresh seeds
 compare once < SCRIPT                   one script; a difference ends the process as a crash
-  --program PATH   another script program than target/bin/script_main
-  --sheet PATH     another program of the day sheet than target/bin/sheet_main
+  --program PATH   another script program than crates/script_main/out/script_main
+  --sheet PATH     another program of the day sheet than crates/sheet_main/out/sheet_main
   --model          the model in the place of the proved library, to try the comparison itself";
 
 #[derive(Clone, Copy, Debug, PartialEq, Eq)]
@@ -98,11 +98,11 @@ pub fn read(words: &[String]) -> Result<Arguments, String> {
             time: Duration::from_secs(10),
         },
         program: Program {
-            path: root.join("target/bin/script_main"),
+            path: root.join("crates/script_main/out/script_main"),
             model: model::script::run,
         },
         sheet: Program {
-            path: root.join("target/bin/sheet_main"),
+            path: root.join("crates/sheet_main/out/sheet_main"),
             model: model::sheet::run,
         },
         root,
@@ -172,7 +172,10 @@ mod tests {
         assert_eq!(read.sheet.path, PathBuf::from("other"));
         let read = read_line("sheet").expect("good words");
         assert_eq!(read.task, Task::One(Part::Sheet));
-        assert!(read.sheet.path.ends_with("target/bin/sheet_main"));
+        assert!(read
+            .sheet
+            .path
+            .ends_with("crates/sheet_main/out/sheet_main"));
     }
 
     #[test]

@@ -4,7 +4,7 @@
 use crate::mark;
 use std::path::{Path, PathBuf};
 
-const ARCHIVE: &str = "target/staticlib/libexports.a";
+const ARCHIVE: &str = "crates/exports/out/libexports.a";
 
 /// The mark of the archive that was linked, as build.rs read it.
 const LINKED: &str = env!("LINKED_ARCHIVE");

@@ -1,17 +1,14 @@
 use Rattle.std.proofs.Common.{◌≡◌, ◌+◌, ◌*◌, ◌<◌, get_or, sym, ◌∙◌, arith, rules}
 use Rattle.std.proofs.Math.Option.{some}
 use Rattle.text.specs.Digits.{hex_digit}
-use Rattle.text.proofs.Hexadecimals.{hex-below, hex-next, hex-missing, hex-end, word-length, word-other, power-next, power_small}
+use Rattle.text.proofs.Hexadecimals.{hex-below, hex-next, hex-missing, hex-end, word-length, power-next, power_small}
 use Rattle.text.proofs.reading.read_hex_word.Goals as goal
 use Rattle.text.proofs.reading.read_hex_word.Goals.{In-Value}
-
-pub returns-then-s-ne8 : goal.returns-then-s-ne8
-returns-then-s-ne8 c = sym (word-other c.args.s.now (λ e. omega arith))
 
 pub returns-in_default : goal.returns-in_default
 returns-in_default c =
     let l = c.loop-i in
-    sym (word-length _ c.if-s-ne8.false ∙ l.invariant.2 ∙ hex-missing _ l.i l.a c.loop-i-test.true (sym c.in_default.ensures))
+    sym (word-length c.args.s.now (omega arith) ∙ l.invariant.2 ∙ hex-missing _ l.i l.a c.loop-i-test.true (sym c.in_default.ensures))
 
 -- where the byte at i is the digit d
 digit : (c : In-Value) → hex_digit (get_or c.args.s.now c.loop-i.i 0) ≡ some c.in-Value.d
@@ -36,4 +33,4 @@ loop-i-preserved c =
 pub returns : goal.returns
 returns c =
     let l = c.loop-i in
-    sym (word-length _ c.if-s-ne8.false ∙ l.invariant.2 ∙ hex-end _ l.i l.a c.loop-i-test.false)
+    sym (word-length c.args.s.now (omega arith) ∙ l.invariant.2 ∙ hex-end _ l.i l.a c.loop-i-test.false)
