@@ -1,9 +1,10 @@
 -- To be believed. A new table in the place of an old one, and whose records a call changes.
+use Rattle.std.specs.Prelude.{◌||◌}
 use Rattle.process.specs.Rules.{Effect, Neither, Own, Both, partner_of}
 use Rattle.rendezvous.specs.Table.{process, fresh_table}
 use Rattle.rendezvous.specs.Refusals.{create_verdict}
 use Rattle.rendezvous.specs.Calls.{if_accepted, effect_on}
-use Rattle.inplace.specs.Types.{ℕ, Bool, false, ◌||◌, eqb, ProcessTable, Answer, Reply}
+use Rattle.inplace.specs.Types.{ℕ, Bool, false, eqb, ProcessTable, Answer, Reply}
 
 -- New, where a table t stood. Where it is refused, "No desk is made.": t stays.
 unfoldable pub remake : ProcessTable → ℕ → ℕ → Reply

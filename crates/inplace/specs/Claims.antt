@@ -2,10 +2,10 @@
 -- and `head_as_bytes` carry these.
 use Rattle.rendezvous.specs.Table.{most_processes}
 use Rattle.records.specs.Layout.{record_length}
-use Rattle.inplace.specs.Types.{ℕ, ◌≡◌, List}
+use Rattle.inplace.specs.Types.{ℕ, List}
 use Rattle.inplace.specs.Layout.{head_length, record_start, table_length}
 use Rattle.inplace.specs.Reading.{head_of}
-use Rattle.std.specs.Prelude.{[], ◌∷◌}
+use Rattle.std.specs.Prelude.{[], ◌∷◌, ◌≡◌}
 
 -- a record for each process stands behind the head, and nothing else
 abbrev pub Lengths : Type 0

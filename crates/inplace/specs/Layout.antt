@@ -1,6 +1,7 @@
 -- To be believed. Where each part of a table stands in its bytes: its head, then a record for each process.
+use Rattle.std.specs.Prelude.{◌+◌, ◌*◌}
 use Rattle.records.specs.Layout.{part, record_length}
-use Rattle.inplace.specs.Types.{ℕ, ◌+◌, ◌*◌, List}
+use Rattle.inplace.specs.Types.{ℕ, List}
 
 -- a head: the number of processes and the length of a nap, one byte each, the next ticket, a word from byte 4 on, the meetings and the withdrawn offers, eight bytes each; the
 -- bytes between and behind them have no use

@@ -1,6 +1,7 @@
 -- To be believed. What a call leaves of the bytes of the table that it works on in their place.
+use Rattle.std.specs.Prelude.{◌≡◌}
 use Rattle.rendezvous.specs.declared.Reply.{Reply}
-use Rattle.inplace.specs.Types.{ℕ, ◌≡◌, Bool, true, false, List, drop, Answer}
+use Rattle.inplace.specs.Types.{ℕ, Bool, true, false, List, drop, Answer}
 use Rattle.inplace.specs.Layout.{table_length, record_bytes}
 use Rattle.inplace.specs.Reading.{table_of}
 

@@ -5,12 +5,12 @@ use Rattle.rendezvous.specs.WellFormed.{well_formed}
 use Rattle.rendezvous.specs.Calls.{stepped}
 use Rattle.process.specs.Rules.{partner_of}
 use Rattle.records.specs.Layout.{place_at, index_at, kept_at, altcount_at, partners_at}
-use Rattle.inplace.specs.Types.{ℕ, ◌+◌, ◌≤◌, ◌<◌, ◌≡◌, Bool, true, List, length, eqb, Answer}
+use Rattle.inplace.specs.Types.{ℕ, Bool, true, List, length, eqb, Answer}
 use Rattle.inplace.specs.Layout.{table_length, count_at, record_start}
 use Rattle.inplace.specs.Reading.{table_of}
 use Rattle.inplace.specs.Calls.{stepped_by}
 use Rattle.inplace.specs.Leaves.{Leaves}
-use Rattle.std.specs.Prelude.{◌%◌, not, ◌&&◌, ◌||◌, cond, ltb}
+use Rattle.std.specs.Prelude.{◌%◌, not, ◌&&◌, ◌||◌, cond, ltb, ◌+◌, ◌≤◌, ◌<◌, ◌≡◌}
 use Rattle.alternative.specs.declared.{Found.Found}
 use Rattle.alternative.specs.Guards.{kept_match}
 use Rattle.process.specs.Process.{own_guard, posted_list}

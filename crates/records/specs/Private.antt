@@ -2,8 +2,8 @@
 use Rattle.wire.specs.Reading.{byte}
 use Rattle.process.specs.Rules.{Effect, Neither, Own}
 use Rattle.process.specs.Fits.{list_fits}
-use Rattle.std.specs.Prelude.{set}
-use Rattle.records.specs.Types.{ℕ, Bool, not, ◌&&◌, ◌||◌, cond, List, eqb, ltb, leb, Guard, Process}
+use Rattle.std.specs.Prelude.{set, ◌&&◌, ◌||◌}
+use Rattle.records.specs.Types.{ℕ, Bool, not, cond, List, eqb, ltb, leb, Guard, Process}
 use Rattle.records.specs.Layout.{place_at, index_at, signal_at, signal_index_at, count_at, altcount_at, partners_at, posted_partners_at, own_at, posted_at}
 use Rattle.records.specs.Reading.{guards_at, process_of}
 

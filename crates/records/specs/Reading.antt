@@ -1,8 +1,9 @@
 -- To be believed. The bytes of a record, read: any bytes are a record. Too few are read as if zeros followed. A tag past the last variant's is read as the last variant, and any byte but 0 as true.
+use Rattle.std.specs.Prelude.{◌+◌, ◌*◌, ◌∷◌}
 use Rattle.wire.specs.Layout.{word_length, message_length}
 use Rattle.wire.specs.Reading.{byte, word_of, message_of}
 use Rattle.alternative.specs.Guards.{most_guards}
-use Rattle.records.specs.Types.{ℕ, zero, suc, ◌+◌, ◌*◌, not, List, [], ◌∷◌, get_or, eqb, Message, Action, Guard, Signal, Place, Process}
+use Rattle.records.specs.Types.{ℕ, zero, suc, not, List, [], get_or, eqb, Message, Action, Guard, Signal, Place, Process}
 use Rattle.records.specs.Layout.{part, place_at, index_at, kept_at, signal_at, signal_index_at, count_at, altcount_at, accepting_at, partners_at, posted_partners_at, ticket_at, outcome_at, signalled_at, own_at, posted_at, sends_in, kinds_in, ranks_in, messages_in, rest_length}
 
 -- f from, f (from + 1), .., so many
