@@ -1,0 +1,14 @@
+pub mod Collected
+pub mod Effects
+pub mod Fits
+pub mod Fresh
+pub mod GivenUp
+pub mod Left
+pub mod Moves
+pub mod Offered
+pub mod Pairs
+pub mod Ready
+pub mod Rows
+pub mod Turned
+pub mod Words
+pub mod Writing
