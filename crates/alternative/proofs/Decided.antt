@@ -1,19 +1,19 @@
 -- Which guard rule 7 keeps, in the words of CR 5: the laws of the search for guards that stand in the list.
+use Rattle.std.specs.Prelude.{Option, Some, None, slice_get}
 use Prim.Native.Nat.{ℕ, zero, suc, ◌≤◌, ◌<◌}
 use mathlib.Core.Path.{◌≡◌, refl, ◌∙◌, ap, subst, subst⁻¹}
 use mathlib.Core.Bool.{true, false≢true}
 use mathlib.Core.List.{List, [], ◌∷◌}
-use mathlib.Core.Option.{some}
 use native.Mathlib.Omega.{arith}
-use lib.ListN.{get_or, get_elem?, length}
-use Rattle.alternative.specs.Types.{Guard, Found}
+use lib.ListN.{get_or, length}
+use Rattle.alternative.specs.Types.{Guard}
 use Rattle.alternative.specs.Guards.{blank, guards_match, kept_match}
 use Rattle.alternative.specs.Ranks.{Matches, Kept, AllOfRank, first_match, RanksDecide}
 use Rattle.alternative.proofs.Search.{first-view}
 use Rattle.alternative.proofs.Kept.{rank_at, Best, blank-unmatched, matching-below, best-kept, none_kept, kept-view}
 
 -- a guard that stands in a list is what is read there
-pub standing : (hs : List Guard) (k : ℕ) (h : Guard) → get_elem? hs k ≡ some h → get_or hs k blank ≡ h
+pub standing : (hs : List Guard) (k : ℕ) (h : Guard) → slice_get hs k ≡ Some h → get_or hs k blank ≡ h
 standing [] k h e = cc
 standing (g ∷ gs) zero h e = cc
 standing (g ∷ gs) (suc k) h e = standing gs k h e
@@ -48,19 +48,19 @@ module _ (p : ℕ) (g : Guard) (q : ℕ) where
           first = λ i l m. subst⁻¹ (λ (h : Guard). rank_at hs i < h.rank) is (k.first i _ (stands hs i m) l);
         }
 
-    found : (j : ℕ) → kept_match p g q hs ≡ Found.At j → Kept p g q hs j
-    found j = kept-view p g q hs (λ (f : Found). f ≡ Found.At j → Kept p g q hs j) (λ i b e. subst (Kept p g q hs) (same i e) (kept_of i b)) (λ n e. absurd (false≢true cc))
+    found : (j : ℕ) → kept_match p g q hs ≡ Some j → Kept p g q hs j
+    found j = kept-view p g q hs (λ (f : Option ℕ). f ≡ Some j → Kept p g q hs j) (λ i b e. subst (Kept p g q hs) (same i e) (kept_of i b)) (λ n e. absurd (false≢true cc))
       where
-        same : (i : ℕ) → Found.At i ≡ Found.At j → i ≡ j
+        same : (i : ℕ) → Some i ≡ Some j → i ≡ j
         same i e = cc
 
-    missing : kept_match p g q hs ≡ Found.Missing → (k : ℕ) (h : Guard) → Matches p g q hs k h → ⊥
-    missing = kept-view p g q hs (λ (f : Found). f ≡ Found.Missing → (k : ℕ) (h : Guard) → Matches p g q hs k h → ⊥) (λ j b e. absurd (false≢true cc)) (λ n e k h m. n k (matched k h m))
+    missing : kept_match p g q hs ≡ None → (k : ℕ) (h : Guard) → Matches p g q hs k h → ⊥
+    missing = kept-view p g q hs (λ (f : Option ℕ). f ≡ None → (k : ℕ) (h : Guard) → Matches p g q hs k h → ⊥) (λ j b e. absurd (false≢true cc)) (λ n e k h m. n k (matched k h m))
 
     -- of guards of one rank the first that matches is the best
     as_before : (r : ℕ) → AllOfRank r hs → kept_match p g q hs ≡ first_match p g q hs
-    as_before r one = first-view (λ (f : Found). kept_match p g q hs ≡ f) (guards_match p g q) hs 0 (blank-unmatched p g q hs)
-        (λ j e n. best-kept p g q hs j (best j e n) ∙ ap Found.At (omega arith)) (none_kept p g q hs)
+    as_before r one = first-view (λ (f : Option ℕ). kept_match p g q hs ≡ f) (guards_match p g q) hs 0 (blank-unmatched p g q hs)
+        (λ j e n. best-kept p g q hs j (best j e n) ∙ ap Some (omega arith)) (none_kept p g q hs)
       where
         rank-of : (k : ℕ) → guards_match p g q (get_or hs k blank) ≡ true → rank_at hs k ≡ r
         rank-of k e = one k _ (stands hs k e).0

@@ -1,4 +1,5 @@
 -- What a search for the first guard that passes a test finds, and whether one passes it.
+use Rattle.std.specs.Prelude.{Option, Some, None}
 use Prim.Native.Nat.{ℕ, zero, suc, ◌+◌, ◌<◌}
 use mathlib.Core.Path.{◌≡◌, refl, sym, ◌∙◌, ap, subst}
 use mathlib.Core.Bool.{Bool, true, false, cond, false≢true, or-true}
@@ -6,7 +7,7 @@ use mathlib.Core.List.{List, [], ◌∷◌}
 use native.Mathlib.Nat.{add-zero}
 use native.Mathlib.Omega.{arith}
 use lib.ListN.{get_or}
-use Rattle.alternative.specs.Types.{Guard, Found}
+use Rattle.alternative.specs.Types.{Guard}
 use Rattle.alternative.specs.Guards.{blank, any_guard, first_from}
 
 -- by the two values of a test
@@ -26,25 +27,25 @@ later test g gs i e n zero l c = false≢true (sym e ∙ c)
 later test g gs i e n (suc j) l c = n j (omega arith) c
 
 -- A search stops at a guard that passes the test with none before it, or finds none.
-pub first-view : (P : Found → Type 0) (test : Guard → Bool) (hs : List Guard) (s : ℕ) → (test blank ≡ true → ⊥)
-    → ((i : ℕ) → test (get_or hs i blank) ≡ true → ((k : ℕ) → k < i → test (get_or hs k blank) ≡ true → ⊥) → P (Found.At (s + i)))
-    → (((k : ℕ) → test (get_or hs k blank) ≡ true → ⊥) → P Found.Missing)
+pub first-view : (P : Option ℕ → Type 0) (test : Guard → Bool) (hs : List Guard) (s : ℕ) → (test blank ≡ true → ⊥)
+    → ((i : ℕ) → test (get_or hs i blank) ≡ true → ((k : ℕ) → k < i → test (get_or hs k blank) ≡ true → ⊥) → P (Some (s + i)))
+    → (((k : ℕ) → test (get_or hs k blank) ≡ true → ⊥) → P None)
     → P (first_from test hs s)
 unfolding first_from
 first-view P test [] s off a b = b (λ k. off)
 first-view P test (g ∷ gs) s off a b = test-elim P (test g)
     (λ e. rw add-zero at (a 0 e (λ k l. absurd (omega arith))))
     (λ e. first-view P test gs (suc s) off
-    (λ i o n. subst P (ap Found.At (omega arith)) (a (suc i) o (later test g gs i e n)))
+    (λ i o n. subst P (ap Some (omega arith)) (a (suc i) o (later test g gs i e n)))
     (λ n. b (all test g gs e n)))
 
 -- the first index at which a test passes is found
-pub first-at : (test : Guard → Bool) (hs : List Guard) (s i : ℕ) → (test blank ≡ true → ⊥) → test (get_or hs i blank) ≡ true → ((k : ℕ) → k < i → test (get_or hs k blank) ≡ true → ⊥) → first_from test hs s ≡ Found.At (s + i)
+pub first-at : (test : Guard → Bool) (hs : List Guard) (s i : ℕ) → (test blank ≡ true → ⊥) → test (get_or hs i blank) ≡ true → ((k : ℕ) → k < i → test (get_or hs k blank) ≡ true → ⊥) → first_from test hs s ≡ Some (s + i)
 unfolding first_from
 first-at test [] s i off e n = absurd (off e)
 first-at test (g ∷ gs) s zero off e n = rw (e, add-zero)
 first-at test (g ∷ gs) s (suc i) off e n =
-    test-elim (λ (f : Found). f ≡ Found.At (s + suc i)) (test g) (λ t. absurd (n 0 (omega arith) t)) (λ t. first-at test gs (suc s) i off e (λ k l. n (suc k) (omega arith)) ∙ ap Found.At (omega arith))
+    test-elim (λ (f : Option ℕ). f ≡ Some (s + suc i)) (test g) (λ t. absurd (n 0 (omega arith) t)) (λ t. first-at test gs (suc s) i off e (λ k l. n (suc k) (omega arith)) ∙ ap Some (omega arith))
 
 -- a guard of the list passes a test if the one at some index does, and only then
 pub any_some : (test : Guard → Bool) (gs : List Guard) (k : ℕ) → (test blank ≡ true → ⊥) → test (get_or gs k blank) ≡ true → any_guard test gs ≡ true

@@ -1,6 +1,7 @@
 -- To be believed. Document 01, "The desk and its tasks" and rule 7, and CRs 2 and 5 of document 02: when guards and offers match, and the two searches in a list of guards.
-use Rattle.std.specs.Prelude.{◌&&◌, ◌||◌, ◌∷◌, ◌++◌}
-use Rattle.alternative.specs.Types.{ℕ, suc, Bool, true, false, not, cond, List, [], length, take, drop, replicate, eqb, ltb, Action, Guard, GuardList, Found}
+use Rattle.std.specs.Prelude.{◌&&◌, ◌∷◌, ◌++◌, Option, Some, None}
+use Rattle.std.specs.List.{list_any}
+use Rattle.alternative.specs.Types.{ℕ, suc, Bool, true, false, not, cond, List, [], length, take, drop, replicate, eqb, ltb, Action, Guard, GuardList}
 
 -- "its list of up to eight guards"
 abbrev pub most_guards : ℕ
@@ -36,17 +37,16 @@ guards_match p g q h = plain_match p g q h && eqb g.kind h.kind
 
 -- a guard of the list passes the test
 unfoldable pub any_guard : (Guard → Bool) → List Guard → Bool
-any_guard test [] = false
-any_guard test (g ∷ gs) = test g || any_guard test gs
+any_guard test gs = list_any test gs
 
 -- "Two offers match if a guard of one matches a guard of the other.": gs is offered by p, hs by q
 unfoldable pub offers_match : ℕ → List Guard → ℕ → List Guard → Bool
 offers_match p gs q hs = any_guard (λ g. any_guard (guards_match p g q) hs) gs
 
 -- the first guard of a list that passes a test; the list's indexes start at k
-unfoldable pub first_from : (Guard → Bool) → List Guard → ℕ → Found
-first_from test [] k = Found.Missing
-first_from test (g ∷ gs) k = cond (test g) (Found.At k) (first_from test gs (suc k))
+unfoldable pub first_from : (Guard → Bool) → List Guard → ℕ → Option ℕ
+first_from test [] k = None
+first_from test (g ∷ gs) k = cond (test g) (Some k) (first_from test gs (suc k))
 
 -- a guard of q's list hs that matches p's guard g ranks higher than h does
 unfoldable pub outranked : ℕ → Guard → ℕ → List Guard → Guard → Bool
@@ -54,11 +54,11 @@ outranked p g q hs h = any_guard (λ k. guards_match p g q k && ltb h.rank k.ran
 
 -- CR 5: "In rule 7 the kept guard is, of all matching ones in the partner's posted list, the one of greatest rank, the first among equals.": the first guard of q's list hs that
 -- matches p's guard g and that no matching one outranks
-unfoldable pub kept_match : ℕ → Guard → ℕ → List Guard → Found
+unfoldable pub kept_match : ℕ → Guard → ℕ → List Guard → Option ℕ
 kept_match p g q hs = first_from (λ h. guards_match p g q h && not (outranked p g q hs h)) hs 0
 
 -- the first enabled guard of a list at or after index k: CR 5, "The scanning side still goes by list order."
-unfoldable pub next_enabled : List Guard → ℕ → Found
+unfoldable pub next_enabled : List Guard → ℕ → Option ℕ
 next_enabled gs k = first_from (λ g. g.enabled) (drop k gs) k
 
 -- the slots that hold a list: its guards, then blanks

@@ -2,6 +2,4 @@
 pub use Rattle.std.specs.Prelude.{ℕ, zero, suc, ◌+◌, ◌^◌, ◌≤◌, ◌<◌, ◌≡◌, Bool, true, false, not, ◌&&◌, ◌||◌, cond, List, [], ◌∷◌, ◌++◌, ◌⊎◌, length, take, drop, replicate, get_or, set, eqb, ltb, leb}
 pub use Prim.Native.Char.{Char, code}
 pub use Prim.Native.String.{String}
-pub use Rattle.std.proofs.Math.Option.{Option, some, none}
-pub use Rattle.std.proofs.Math.ListN.{get_elem?}
-pub use Rattle.alternative.specs.declared.{Message.Message, Action.Action, Guard.Guard, GuardList.GuardList, Found.Found}
+pub use Rattle.alternative.specs.declared.{Message.Message, Action.Action, Guard.Guard, GuardList.GuardList}

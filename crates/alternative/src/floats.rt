@@ -1,25 +1,19 @@
 // f32 values: the test for a NaN, and the bits both ways.
 ghost use Rattle.std.specs.Prelude.{◌≡◌};
 ghost use Rattle.std.specs.Float.{binary32};
-ghost use Rattle.std.specs.Float.Ieee.{is_nan, nan_bits, to_bits, of_bits};
+ghost use Rattle.std.specs.Float.Ieee.{nan_bits, to_bits, of_bits};
 ghost use Rattle.alternative.specs.Exchange.{message_holds_nan, action_holds_nan};
 
 use crate::{Action, Message};
-
-fn is_nan(x: f32) -> bool
-    ensures { result ≡ is_nan x }
-{
-    x != x
-}
 
 // The bits of x. A NaN's payload has no place in the logic: every NaN gives the pattern 7fc00000.
 pub fn bits_of(x: f32) -> u32
     ensures { result ≡ to_bits binary32 x }
 {
-    if is_nan(x) {
+    if x.is_nan() {
         return 0x7fc00000;
     }
-    f32::to_bits(x)
+    x.to_bits()
 }
 
 fn is_nan_pattern(bits: u32) -> bool
@@ -33,7 +27,7 @@ pub fn float_of(bits: u32) -> f32
     ensures { result ≡ of_bits binary32 bits }
 {
     if is_nan_pattern(bits) {
-        return 0.0 / 0.0;
+        return f32::NAN;
     }
     f32::from_bits(bits)
 }
@@ -42,10 +36,9 @@ fn message_holds_nan(m: Message) -> bool
     ensures { result ≡ message_holds_nan m }
 {
     match m {
-        Message::Nothing => false,
-        Message::Whole(_) => false,
-        Message::Reading(x) => is_nan(x),
-        Message::Limit(low, high) => is_nan(low) | is_nan(high),
+        Message::Nothing | Message::Whole(_) => false,
+        Message::Reading(x) => x.is_nan(),
+        Message::Limit(low, high) => low.is_nan() || high.is_nan(),
     }
 }
 

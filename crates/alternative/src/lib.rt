@@ -42,7 +42,8 @@ pub struct Guard {
     pub action: Action,
 }
 
-// A list of guards as a task offers it: how many there are, and the first eight.
+// A list of guards as a task offers it: how many there are, and the first eight. An array and a count, since there is no heap, and the
+// count may be above eight.
 #[derive(Clone, Copy)]
 pub struct GuardList {
     pub count: usize,
@@ -62,39 +63,18 @@ pub fn blank_guard() -> Guard
     }
 }
 
-// The guard with a kind.
+// The guard with a kind. This and the next differ in the field that they set, which no parameter could name.
 pub fn of_kind(guard: Guard, kind: u8) -> Guard
     ensures { result ≡ of_kind kind guard }
 {
-    let action = guard.action;
-    Guard {
-        enabled: guard.enabled,
-        partner: guard.partner,
-        kind: kind,
-        rank: guard.rank,
-        action: action,
-    }
+    Guard { kind, ..guard }
 }
 
 // The guard with a rank.
 pub fn of_rank(guard: Guard, rank: u8) -> Guard
     ensures { result ≡ of_rank rank guard }
 {
-    let action = guard.action;
-    Guard {
-        enabled: guard.enabled,
-        partner: guard.partner,
-        kind: guard.kind,
-        rank: rank,
-        action: action,
-    }
-}
-
-// What a search in a list finds: the index of a guard, or none.
-#[derive(Clone, Copy)]
-pub enum Found {
-    At(u8),
-    Missing,
+    Guard { rank, ..guard }
 }
 
 // Carries that guards match only within a kind, and there as document 01 says.

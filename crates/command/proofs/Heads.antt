@@ -1,66 +1,40 @@
 -- A list by its first byte, and whether bytes are left after it.
-use Prim.Native.Nat.{ℕ}
-use Prim.Native.Char.{code}
+use Rattle.std.specs.Prelude.{Option, Some, None, unwrap_or, ◌==◌}
+use Rattle.std.specs.Bool.{then_some}
+use Prim.Native.Nat.{ℕ, ◌-◌, ◌≤◌, ◌<◌}
 use mathlib.Core.Path.{◌≡◌, refl}
-use mathlib.Core.Bool.{true, false}
+use mathlib.Core.Bool.{Bool, true, false, cond}
 use mathlib.Core.List.{List, [], ◌∷◌}
-use mathlib.Core.Option.{some, none}
 use native.Mathlib.Omega.{arith}
-use borrow.Author.Tests.{eq-eqb, ne_eqb}
-use lib.ListN.{length, get_or, drop}
-use Rattle.text.specs.Reading.{byte_number}
-use Rattle.command.specs.Commands.{is_empty, message_by, message_in, action_by, action_in, guard_from, plain_guard_in, marked_in}
+use borrow.Author.Tests.{ltb-false, ne_eqb}
+use lib.Dec.{ltb}
+use lib.ListN.{length, get_or, take, drop, length-drop}
+use lib.Seq.{take_all}
+use Rattle.text.specs.Reading.{provided}
+use Rattle.command.specs.Commands.{is_empty}
 
-pub empty_of : (s : List ℕ) → length s ≡ 0 → s ≡ []
-empty_of [] e = refl
-empty_of (b ∷ bs) e = absurd (omega arith)
+pub empty_of : (s : List ℕ) → length s < 1 → s ≡ []
+empty_of [] h = refl
+empty_of (b ∷ bs) h = absurd (omega arith)
 
-pub alone_of : (s : List ℕ) → length s ≡ 1 → drop 1 s ≡ []
-alone_of [] e = refl
-alone_of (b ∷ bs) e = empty_of bs (omega arith)
+-- the part `&s[k..]` is what is left from k on
+pub part-rest : (k : ℕ) (s : List ℕ) → take (length s - k) (drop k s) ≡ drop k s
+part-rest k s = take_all (length s - k) (drop k s) (omega (arith, length-drop k s))
 
-pub not-alone : (s : List ℕ) → (length s ≡ 0 → ⊥) → (length s ≡ 1 → ⊥) → is_empty (drop 1 s) ≡ false
-not-alone [] h k = absurd (h refl)
-not-alone (b ∷ []) h k = absurd (k refl)
-not-alone (b ∷ d ∷ ds) h k = refl
+-- the rest as a pattern lends it
+pub headed : (s : List ℕ) → 1 ≤ length s → s ≡ get_or s 0 0 ∷ take (length s - 1) (drop 1 s)
+headed [] h = absurd (omega arith)
+headed (b ∷ bs) h = rw (part-rest 1 (b ∷ bs))
 
-pub message-none : (s : List ℕ) → length s ≡ 0 → message_in s ≡ none
-unfolding message_in
-message-none s e = rw (empty_of s e)
+-- a value where there is nothing more
+pub if-alone : {A : Type 0} (s : List ℕ) (x : A) (empty : Bool) (result : Option A) → empty ≡ (length s == 0) → result ≡ then_some empty x → result ≡ provided (is_empty s) x
+if-alone [] x empty result e f = rw (f, e)
+if-alone (b ∷ bs) x empty result e f = rw (f, e, ne_eqb (length (b ∷ bs)) 0 (λ h. omega (arith, h)))
 
-pub message-by : (s : List ℕ) → (length s ≡ 0 → ⊥) → message_in s ≡ message_by (get_or s 0 0) (drop 1 s)
-unfolding message_in
-message-by [] h = absurd (h refl)
-message-by (b ∷ bs) h = refl
-
-pub action-none : (s : List ℕ) → length s ≡ 0 → action_in s ≡ none
-unfolding action_in
-action-none s e = rw (empty_of s e)
-
-pub action-by : (s : List ℕ) → (length s ≡ 0 → ⊥) → action_in s ≡ action_by (get_or s 0 0) (drop 1 s)
-unfolding action_in
-action-by [] h = absurd (h refl)
-action-by (b ∷ bs) h = refl
-
-pub guard_none : (s : List ℕ) → length s ≡ 0 → plain_guard_in s ≡ none
-unfolding plain_guard_in
-guard_none s e = rw (empty_of s e)
-
-pub guard-disabled : (s : List ℕ) → (length s ≡ 0 → ⊥) → get_or s 0 0 ≡ code "-" → plain_guard_in s ≡ guard_from false (drop 1 s)
-unfolding plain_guard_in
-guard-disabled [] h e = absurd (h refl)
-guard-disabled (b ∷ bs) h e = rw (eq-eqb b (code "-") e)
-
-pub guard-enabled : (s : List ℕ) → (length s ≡ 0 → ⊥) → (get_or s 0 0 ≡ code "-" → ⊥) → plain_guard_in s ≡ guard_from true s
-unfolding plain_guard_in
-guard-enabled [] h e = absurd (h refl)
-guard-enabled (b ∷ bs) h e = rw (ne_eqb b (code "-") e)
-
-pub marked-nothing : (s : List ℕ) → length s ≡ 0 → marked_in s ≡ some 0
-unfolding marked_in
-marked-nothing s e = rw (empty_of s e)
-
-pub marked-after : (s : List ℕ) → (length s ≡ 0 → ⊥) → marked_in s ≡ byte_number (drop 1 s)
-unfolding marked_in
-marked-after [] h = absurd (h refl)
-marked-after (b ∷ bs) h = refl
+-- a place among n, or n
+pub place-found : (p n r : ℕ) (found : Option ℕ) → p ≤ n → found ≡ cond (ltb p n) (Some p) None → r ≡ unwrap_or found n → r ≡ p
+place-found p n r found h e f = rw (f, e) (go (ltb p n) refl)
+  where
+    go : (t : Bool) → ltb p n ≡ t → unwrap_or (cond t (Some p) None) n ≡ p
+    go true q = refl
+    go false q = omega (arith, ltb-false p n q)

@@ -1,10 +1,10 @@
 -- A guard without a `:` is read as document 01 has it, and its kind is 0; one without a `^` is read as before there were ranks, and its rank is 0.
-use Prim.Native.Nat.{ℕ, suc}
+use Rattle.std.specs.Prelude.{Option, Some, None}
+use Prim.Native.Nat.{ℕ}
 use Prim.Native.Char.{code}
-use mathlib.Core.Path.{◌≡◌, refl, sym, ap, subst}
+use mathlib.Core.Path.{◌≡◌, refl, sym, subst}
 use mathlib.Core.Bool.{Bool, true, false, cond}
 use mathlib.Core.List.{List, [], ◌∷◌}
-use mathlib.Core.Option.{Option, some, none}
 use native.Mathlib.Omega.{arith}
 use lib.Dec.{eqb}
 use borrow.Author.Tests.{ne_eqb}
@@ -14,13 +14,13 @@ use Rattle.alternative.specs.Guards.{of_kind, of_rank}
 use Rattle.text.specs.Types.{◌>>=◌}
 use Rattle.text.specs.Reading.{byte_number}
 use Rattle.command.specs.Types.{Action, Guard}
-use Rattle.command.specs.Commands.{action_in, leading, digit_count, guard_from, before, plain_guard_in, marked_in, kinded_guard_in, guard_in}
+use Rattle.command.specs.Commands.{action_in, digit_count, guard_from, before, plain_guard_in, marked_in, kinded_guard_in, guard_in}
 use Rattle.command.specs.KindLeftOut.{Lacks, KindLeftOut}
 
 -- what is read, if anything, has the number 0
 abbrev Zero : (Guard → ℕ) → Option Guard → Type 0
-Zero number none = Unit {0}
-Zero number (some g) = number g ≡ 0
+Zero number None = Unit {0}
+Zero number (Some g) = number g ≡ 0
 
 abbrev kind_of : Guard → ℕ
 kind_of g = g.kind
@@ -38,10 +38,10 @@ unfolding guard_from
 from_zero enabled bs = go (byte_number (take (digit_count bs) bs)) (action_in (drop (digit_count bs) bs))
   where
     go : (partner : Option ℕ) (action : Option Action)
-        → Plain (◌>>=◌ partner (λ p. ◌>>=◌ action (λ a. some (record { enabled = enabled; partner = p; kind = 0; rank = 0; action = a }))))
-    go none action = record { kind = tt; rank = tt }
-    go (some p) none = record { kind = tt; rank = tt }
-    go (some p) (some a) = record { kind = refl; rank = refl }
+        → Plain (◌>>=◌ partner (λ p. ◌>>=◌ action (λ a. Some (record { enabled = enabled; partner = p; kind = 0; rank = 0; action = a }))))
+    go None action = record { kind = tt; rank = tt }
+    go (Some p) None = record { kind = tt; rank = tt }
+    go (Some p) (Some a) = record { kind = refl; rank = refl }
 
 plain-zero : (field : List ℕ) → Plain (plain_guard_in field)
 unfolding plain_guard_in
@@ -57,25 +57,24 @@ kinded-zero : (bytes : List ℕ) → Zero rank_of (kinded_guard_in bytes)
 unfolding kinded_guard_in
 kinded-zero bytes = go (plain_guard_in (take (before (code ":") bytes) bytes)) (plain-zero _).rank (marked_in (drop (before (code ":") bytes) bytes))
   where
-    go : (guard : Option Guard) → Zero rank_of guard → (kind : Option ℕ) → Zero rank_of (◌>>=◌ guard (λ g. ◌>>=◌ kind (λ k. some (of_kind k g))))
-    go none e kind = tt
-    go (some g) e none = tt
-    go (some g) e (some k) = e
+    go : (guard : Option Guard) → Zero rank_of guard → (kind : Option ℕ) → Zero rank_of (◌>>=◌ guard (λ g. ◌>>=◌ kind (λ k. Some (of_kind k g))))
+    go None e kind = tt
+    go (Some g) e None = tt
+    go (Some g) e (Some k) = e
 
 -- to give such a guard the number 0 changes nothing
-same_kind : (o : Option Guard) → Zero kind_of o → ◌>>=◌ o (λ g. some (of_kind 0 g)) ≡ o
-same_kind none e = refl
-same_kind (some g) e = rw (sym e)
+same_kind : (o : Option Guard) → Zero kind_of o → ◌>>=◌ o (λ g. Some (of_kind 0 g)) ≡ o
+same_kind None e = refl
+same_kind (Some g) e = rw (sym e)
 
-same_rank : (o : Option Guard) → Zero rank_of o → ◌>>=◌ o (λ g. some (of_rank 0 g)) ≡ o
-same_rank none e = refl
-same_rank (some g) e = rw (sym e)
+same_rank : (o : Option Guard) → Zero rank_of o → ◌>>=◌ o (λ g. Some (of_rank 0 g)) ≡ o
+same_rank None e = refl
+same_rank (Some g) e = rw (sym e)
 
 -- without the mark the cut is at the end
 cut-at-end : (mark : ℕ) (bs : List ℕ) → Lacks mark bs → before mark bs ≡ length bs
-unfolding leading
 cut-at-end mark [] h = refl
-cut-at-end mark (b ∷ bs) h = rw (ne_eqb b mark h.0) (ap suc (cut-at-end mark bs h.1))
+cut-at-end mark (b ∷ bs) h = rw (ne_eqb b mark h.0) (omega (arith, cut-at-end mark bs h.1))
 
 pub kind-left-out : KindLeftOut
 unfolding kinded_guard_in marked_in
@@ -88,5 +87,5 @@ pub rank-as-before : (field : List ℕ) → Lacks (code "^") field → guard_in 
 unfolding guard_in marked_in
 rank-as-before field h = rw (cut-at-end (code "^") field h, take_all (length field) field (omega arith), drop-length) (same_rank (kinded_guard_in field) (kinded-zero field))
 
-pub rank-zero : (field : List ℕ) (g : Guard) → kinded_guard_in field ≡ some g → g.rank ≡ 0
+pub rank-zero : (field : List ℕ) (g : Guard) → kinded_guard_in field ≡ Some g → g.rank ≡ 0
 rank-zero field g e = subst (Zero rank_of) e (kinded-zero field)

@@ -1,4 +1,3 @@
-pub mod Leading
 pub mod LeftOut
 pub mod Heads
 pub mod Cuts

@@ -1,10 +1,10 @@
 -- Fields and lines without a `^` are read as before there were ranks, and offer guards of rank 0 alone.
+use Rattle.std.specs.Prelude.{Option, Some, None}
 use Prim.Native.Nat.{ℕ, zero, suc}
 use Prim.Native.Char.{code}
 use mathlib.Core.Path.{◌≡◌, refl, sym, ◌∙◌, subst}
 use mathlib.Core.Bool.{Bool, true, false, cond}
 use mathlib.Core.List.{List, [], ◌∷◌}
-use mathlib.Core.Option.{Option, some, none}
 use lib.Dec.{eqb}
 use Rattle.alternative.specs.Ranks.{AllOfRank}
 use Rattle.text.specs.Types.{◌>>=◌}
@@ -35,15 +35,15 @@ guards-as-before (f ∷ fs) lacks = rw (rank-as-before f lacks.0, guards-as-befo
 
 -- the guards, if any are read, have rank 0
 abbrev Bare : Option (List Guard) → Type 0
-Bare none = Unit {0}
-Bare (some gs) = AllOfRank 0 gs
+Bare None = Unit {0}
+Bare (Some gs) = AllOfRank 0 gs
 
 bare-more : (g : Guard) (gs : List Guard) → g.rank ≡ 0 → AllOfRank 0 gs → AllOfRank 0 (g ∷ gs)
 bare-more g gs a b zero h e = subst (λ (o : Option Guard). rank_in o ≡ 0) e a
   where
     rank_in : Option Guard → ℕ
-    rank_in none = 0
-    rank_in (some f) = f.rank
+    rank_in None = 0
+    rank_in (Some f) = f.rank
 bare-more g gs a b (suc k) h e = b k h e
 
 guards-bare : (fs : List (List ℕ)) → EachLacks (code "^") fs → Bare (guards_in fs)
@@ -51,16 +51,16 @@ unfolding guards_in
 guards-bare [] lacks = λ k h e. cc
 guards-bare (f ∷ fs) lacks = go (guard_in f) (λ g e. rank-zero f g (sym (rank-as-before f lacks.0) ∙ e)) (guards_in fs) (guards-bare fs lacks.1)
   where
-    go : (first : Option Guard) → ((g : Guard) → first ≡ some g → g.rank ≡ 0) → (rest : Option (List Guard)) → Bare rest → Bare (◌>>=◌ first (λ g. ◌>>=◌ rest (λ gs. some (g ∷ gs))))
-    go none a rest b = tt
-    go (some g) a none b = tt
-    go (some g) a (some gs) b = bare-more g gs (a g refl) b
+    go : (first : Option Guard) → ((g : Guard) → first ≡ Some g → g.rank ≡ 0) → (rest : Option (List Guard)) → Bare rest → Bare (◌>>=◌ first (λ g. ◌>>=◌ rest (λ gs. Some (g ∷ gs))))
+    go None a rest b = tt
+    go (Some g) a None b = tt
+    go (Some g) a (Some gs) b = bare-more g gs (a g refl) b
 
 -- the guards of an offer, if the command is one, have rank 0
 abbrev pub BareOffer : Option Command → Type 0
-BareOffer c = (p : ℕ) (gs : List Guard) → c ≡ some (Do (Offer p gs)) → AllOfRank 0 gs
+BareOffer c = (p : ℕ) (gs : List Guard) → c ≡ Some (Do (Offer p gs)) → AllOfRank 0 gs
 
-none_bare : BareOffer none
+none_bare : BareOffer None
 none_bare p gs e k h f = cc
 
 offer-bare : (fs : List (List ℕ)) → EachLacks (code "^") fs → BareOffer (offer_in fs)
@@ -68,28 +68,28 @@ unfolding offer_in
 offer-bare [] lacks = none_bare
 offer-bare (f ∷ fs) lacks = go (byte_number f) (guards_in fs) (guards-bare fs lacks.1)
   where
-    go : (p : Option ℕ) (gs : Option (List Guard)) → Bare gs → BareOffer (◌>>=◌ p (λ p. ◌>>=◌ gs (λ gs. some (Do (Offer p gs)))))
-    go none gs b = none_bare
-    go (some p) none b = none_bare
-    go (some p) (some gs) b = λ q hs e k h f. let same : gs ≡ hs = cc in b k h (rw same f)
+    go : (p : Option ℕ) (gs : Option (List Guard)) → Bare gs → BareOffer (◌>>=◌ p (λ p. ◌>>=◌ gs (λ gs. Some (Do (Offer p gs)))))
+    go None gs b = none_bare
+    go (Some p) None b = none_bare
+    go (Some p) (Some gs) b = λ q hs e k h f. let same : gs ≡ hs = cc in b k h (rw same f)
 
 new-bare : (fs : List (List ℕ)) → BareOffer (new_in fs)
 unfolding new_in
 new-bare [] = none_bare
 new-bare (f ∷ fs) = go (byte_number f) (nap_in fs)
   where
-    go : (n d : Option ℕ) → BareOffer (◌>>=◌ n (λ n. ◌>>=◌ d (λ d. some (New n d))))
-    go none d = none_bare
-    go (some n) none = none_bare
-    go (some n) (some d) = λ p gs e k h f. cc
+    go : (n d : Option ℕ) → BareOffer (◌>>=◌ n (λ n. ◌>>=◌ d (λ d. Some (New n d))))
+    go None d = none_bare
+    go (Some n) None = none_bare
+    go (Some n) (Some d) = λ p gs e k h f. cc
 
-numbered-bare : (make : ℕ → Command) → ((p : ℕ) → BareOffer (some (make p))) → (fs : List (List ℕ)) → BareOffer (numbered make fs)
+numbered-bare : (make : ℕ → Command) → ((p : ℕ) → BareOffer (Some (make p))) → (fs : List (List ℕ)) → BareOffer (numbered make fs)
 unfolding numbered
 numbered-bare make h fs = go (number_in fs)
   where
-    go : (p : Option ℕ) → BareOffer (◌>>=◌ p (λ p. some (make p)))
-    go none = none_bare
-    go (some p) = h p
+    go : (p : Option ℕ) → BareOffer (◌>>=◌ p (λ p. Some (make p)))
+    go None = none_bare
+    go (Some p) = h p
 
 -- by the two values of a test
 either : (b : Bool) {x y : Option Command} → BareOffer x → BareOffer y → BareOffer (cond b x y)

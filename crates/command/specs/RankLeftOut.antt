@@ -1,7 +1,6 @@
 -- To be believed. CR 5 of document 02, "0 if left out": guards without a `^` are read as document 01 and CR 2 have them, with rank 0. The function `rank_left_out` carries these claims.
-use Rattle.std.specs.Prelude.{ℕ, ◌≡◌, List, [], ◌∷◌}
+use Rattle.std.specs.Prelude.{ℕ, ◌≡◌, List, [], ◌∷◌, Option, Some}
 use Prim.Native.Char.{code}
-use Rattle.std.proofs.Math.Option.{Option, some}
 use Rattle.alternative.specs.Ranks.{AllOfRank}
 use Rattle.text.specs.Types.{◌>>=◌}
 use Rattle.command.specs.Types.{Guard, Offer, Do}
@@ -15,11 +14,11 @@ EachLacks c (f ∷ fs) = Lacks c f × EachLacks c fs
 
 -- the guards of an offer as document 01 and CR 2 have them
 abbrev pub kinded_guards_in : List (List ℕ) → Option (List Guard)
-kinded_guards_in [] = some []
+kinded_guards_in [] = Some []
 kinded_guards_in (f ∷ fs) = do
   g ← kinded_guard_in f
   gs ← kinded_guards_in fs
-  some (g ∷ gs)
+  Some (g ∷ gs)
 
 pub record RankLeftOut : Type 0 where
   -- a field without a `^` says the guard that it says by document 01 and CR 2, and one without a `:` too what it says by document 01;
@@ -28,6 +27,6 @@ pub record RankLeftOut : Type 0 where
   -- so do the fields of an offer;
   pub guards : (fs : List (List ℕ)) → EachLacks (code "^") fs → guards_in fs ≡ kinded_guards_in fs
   -- the rank of such a guard is 0,
-  pub zero : (field : List ℕ) (g : Guard) → kinded_guard_in field ≡ some g → g.rank ≡ 0
+  pub zero : (field : List ℕ) (g : Guard) → kinded_guard_in field ≡ Some g → g.rank ≡ 0
   -- and a line without a `^` offers guards of rank 0 alone
-  pub lines : (line : List ℕ) (p : ℕ) (gs : List Guard) → Lacks (code "^") line → command_of line ≡ some (Do (Offer p gs)) → AllOfRank 0 gs
+  pub lines : (line : List ℕ) (p : ℕ) (gs : List Guard) → Lacks (code "^") line → command_of line ≡ Some (Do (Offer p gs)) → AllOfRank 0 gs

@@ -9,27 +9,20 @@ use alternative::{Guard, GuardList, blank_guard};
 pub fn no_guards() -> GuardList
     ensures { result ≡ lent [] }
 {
-    let blank = blank_guard();
-    let guards = [blank; 8];
     GuardList {
         count: 0,
-        guards: guards,
+        guards: [blank_guard(); 8],
     }
 }
 
 // The list with one guard more: it is counted, and kept if it is among the first eight.
-pub fn with_guard(list: GuardList, guard: Guard) -> GuardList
+pub fn with_guard(mut list: GuardList, guard: Guard) -> GuardList
     requires { list.count < 18446744073709551615 }
     ensures { Grown list guard result }
 {
-    let count = list.count;
-    let mut guards = list.guards;
-    if count < 8 {
-        guards[count] = guard;
+    if list.count < 8 {
+        list.guards[list.count] = guard;
     }
-    let counted = count + 1;
-    GuardList {
-        count: counted,
-        guards: guards,
-    }
+    list.count += 1;
+    list
 }

@@ -2,48 +2,35 @@
 ghost use Rattle.std.specs.Prelude.{◌≡◌};
 ghost use Rattle.command.specs.Commands.{fields, guards_in, offer_in};
 ghost use Rattle.command.specs.InCode.{as_parsed};
-ghost use Rattle.command.specs.Private.{as_offer, fields_after};
+ghost use Rattle.command.specs.Private.{as_list, fields_after};
 
 use crate::fields::length_before;
 use crate::guards::read_guard;
 use crate::lists::{no_guards, with_guard};
-use crate::{Parsed, ReadGuard, Verb, plain_command};
-use text::{ByteNumber, read_byte_number};
+use crate::{Call, Command};
+use alternative::GuardList;
+use text::read_byte_number;
 
-// An offer by p. The bytes start where the field of p ends: at a space, or at the line's end.
-fn offer_of(p: u8, s: &[u8]) -> Parsed
-    ensures { result ≡ as_offer p (guards_in (fields_after s.now)) }
+// The guards of an offer. The bytes start where the field of its process ends: at a space, or at the line's end.
+fn read_guards(s: &[u8]) -> Option<GuardList>
+    ensures { result ≡ as_list (guards_in (fields_after s.now)) }
 {
     let mut list = no_guards();
-    let mut at = 0;
-    while at < s.len() {
-        let from = at + 1;
-        let end = from + length_before(b' ', &s[from..]);
-        match read_guard(&s[from..end]) {
-            ReadGuard::Malformed => {
-                return plain_command(Verb::Malformed, 0);
-            }
-            ReadGuard::Value(guard) => {
-                list = with_guard(list, guard);
-            }
-        }
-        at = end;
+    let mut rest = s;
+    while let [_, fields @ ..] = rest {
+        let (field, after) = fields.split_at(length_before(b' ', fields));
+        list = with_guard(list, read_guard(field)?);
+        rest = after;
     }
-    Parsed {
-        verb: Verb::Offer,
-        number: p,
-        nap: 0,
-        list: list,
-    }
+    Some(list)
 }
 
 // The bytes after `o` and a space: `P G..`.
-pub fn parse_offer(s: &[u8]) -> Parsed
+pub fn parse_offer(s: &[u8]) -> Option<Command>
     ensures { result ≡ as_parsed (offer_in (fields s.now)) }
 {
-    let end = length_before(b' ', s);
-    match read_byte_number(&s[..end]) {
-        ByteNumber::Malformed => plain_command(Verb::Malformed, 0),
-        ByteNumber::Value(p) => offer_of(p, &s[end..]),
-    }
+    let (p, rest) = s.split_at(length_before(b' ', s));
+    let p = read_byte_number(p)?;
+    let list = read_guards(rest)?;
+    Some(Command::Do(Call::Offer { p, list }))
 }

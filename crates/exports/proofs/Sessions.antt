@@ -1,15 +1,17 @@
 -- A session's bytes, written part by part, are read as its state; and a text put at the front.
 use Prim.Native.Nat.{ℕ, zero, suc, ◌≤◌, min}
 use mathlib.Core.Path.{◌≡◌, refl, sym, ap, ◌∙◌}
-use mathlib.Core.Bool.{true, cond, true≢false}
+use Rattle.std.specs.Prelude.{Option, Some, None, is_some}
+use Rattle.std.specs.Option.{unwrap_or}
+use Rattle.std.specs.Bool.{then_some}
+use mathlib.Core.Bool.{Bool, true, cond, true≢false}
 use mathlib.Core.List.{List, [], ◌∷◌, ◌++◌, flatten, append_assoc, append-nil}
 use native.Mathlib.Omega.{arith}
 use borrow.Author.Tests.{le-leb}
 use lib.Dec.{leb}
-use lib.ListN.{length, take, drop, set, replicate, length-take}
+use lib.ListN.{length, take, drop, set, replicate}
 use lib.Seq.{sets, take_all, take_at, drop-length}
-use Rattle.text.specs.declared.Text.{Text}
-use Rattle.text.specs.Writing.{shown, line_length}
+use Rattle.text.specs.Writing.{line_length}
 use Rattle.script.specs.Lines.{begun_length}
 use Rattle.script.specs.Feeding.{state_held}
 use Rattle.script.specs.declared.Session.{Session}
@@ -43,10 +45,15 @@ table-whole t l e =
     let gone : drop table_length l ≡ [] = ap (λ (n : ℕ). drop n l) (sym e) ∙ drop-length l in
     rw (le-leb table_length (length l) (omega arith)) (ap (λ (r : List ℕ). bytes_of t ++ r) gone ∙ append-nil (bytes_of t))
 
-module _ (s : Session) (long : length s.bytes ≡ begun_length) (table : Faithful s.table) where
+-- a session's table as its bytes have it: whether one was made, and the table, or another where none was
+pub held-table : (o : Option ProcessTable) (other : ProcessTable) → then_some (is_some o) (unwrap_or o other) ≡ o
+held-table None other = refl
+held-table (Some t) other = refl
+
+module _ (s : Session) (long : length s.bytes ≡ begun_length) (made : Bool) (t : ProcessTable) (same : then_some made t ≡ s.table) (table : Faithful t) where
   -- two bytes, the begun line's, the table's
   abbrev parts : List (List ℕ)
-  parts = (flag s.made ∷ min s.length begun_length ∷ []) ∷ s.bytes ∷ bytes_of s.table ∷ []
+  parts = (flag made ∷ min s.length begun_length ∷ []) ∷ s.bytes ∷ bytes_of t ∷ []
 
   begun-at : (rest : List ℕ) → take begun_length ((s.bytes ++ rest) ++ replicate begun_length 0) ≡ s.bytes
   begun-at rest = rw (append_assoc s.bytes rest (replicate begun_length 0)) (take_at s.bytes (rest ++ replicate begun_length 0) begun_length long)
@@ -58,13 +65,14 @@ module _ (s : Session) (long : length s.bytes ≡ begun_length) (table : Faithfu
         from-part parts 1 begun_at rest refl,
         from-part parts 2 table_at rest (rw long),
         from-part parts 0 0 rest refl,
-        begun-at (bytes_of s.table ++ rest),
+        begun-at (bytes_of t ++ rest),
         take-most s.bytes s.length begun_length long,
-        flag-back s.made,
+        flag-back made,
         table.read_back rest,
+        same,
       )
 
-  pub session-stored : (l l' : List ℕ) → session_length ≤ length l → l' ≡ sets (sets (sets l 0 (flag s.made ∷ min s.length begun_length ∷ [])) begun_at s.bytes) table_at (bytes_of s.table)
+  pub session-stored : (l l' : List ℕ) → session_length ≤ length l → l' ≡ sets (sets (sets l 0 (flag made ∷ min s.length begun_length ∷ [])) begun_at s.bytes) table_at (bytes_of t)
       → Stored true (state_held s) l l' true
   session-stored l l' h e =
       let all : total parts ≡ session_length = rw (long, table.long) in
@@ -76,12 +84,9 @@ module _ (s : Session) (long : length s.bytes ≡ begun_length) (table : Faithfu
         short = λ n. absurd (true≢false n);
       }
 
--- a text, which is a line at most
-pub text-put : (t : Text) → length t.bytes ≡ line_length → (l : List ℕ) (count : ℕ) → line_length ≤ length l → count ≡ min t.length line_length
-    → (count ≡ cond (leb line_length (length l)) (length (shown t)) 0) × (sets l 0 (take count t.bytes) ≡ take count (shown t) ++ drop count l)
-unfolding shown
-text-put t n l count h e =
-    let same : take count t.bytes ≡ take t.length t.bytes = rw e (take-most t.bytes t.length line_length n) in
-    let long : length (take t.length t.bytes) ≡ count = rw (← same) (simp length-take (omega arith)) in
-    let all : take count (take t.length t.bytes) ≡ take t.length t.bytes = take_all count (take t.length t.bytes) (omega arith) in
-    rw (le-leb line_length (length l) h) (sym long, rw (same, all) (sets-front l (take t.length t.bytes) count long (omega arith)))
+-- a text's bytes, which are a line at most
+pub text-put : (text bytes l : List ℕ) (count : ℕ) → bytes ≡ text → length bytes ≤ line_length → line_length ≤ length l → count ≡ length bytes
+    → (count ≡ cond (leb line_length (length l)) (length text) 0) × (sets l 0 bytes ≡ take count text ++ drop count l)
+text-put text bytes l count e short h g =
+    let all : take count bytes ≡ bytes = take_all count bytes (omega arith) in
+    rw (le-leb line_length (length l) h, ← e) (g, rw all (sets-front l bytes count (sym g) (omega arith)))

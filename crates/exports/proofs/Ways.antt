@@ -1,4 +1,5 @@
 -- A refused offer hands the table back; and a message by way of the calls, by computation.
+use Rattle.std.specs.Prelude.{Err}
 use mathlib.Core.Path.{◌≡◌, refl}
 use mathlib.Core.Bool.{Bool, true, false}
 use mathlib.Core.List.{List}
@@ -11,12 +12,12 @@ use Rattle.rendezvous.specs.WellFormed.{all_below, count_fits, nap_fits, fits_at
 use Rattle.rendezvous.specs.Refusals.{require, process_verdict, list_verdict, offer_verdict}
 use Rattle.rendezvous.specs.Calls.{if_accepted, offered, offer_list, effect_on, stepped, step, collect}
 use Rattle.process.specs.declared.Place.{Place}
-use Rattle.rendezvous.specs.declared.{Refusal.Refusal, Verdict.Verdict}
+use Rattle.rendezvous.specs.declared.{Refusal.Refusal}
 use Rattle.exports.specs.Types.{Message, Action, Guard, ProcessTable, Reply}
 use Rattle.exports.specs.Private.{facing, collected_of}
 
 refused-twice : (formed named : Bool) (t : ProcessTable) (reply : Reply)
-    → (if_accepted (require formed Refusal.NotWellFormed (require named Refusal.NoSuchProcess (Verdict.Refused Refusal.GuardCount))) t reply).table ≡ t
+    → (if_accepted (require formed Refusal.NotWellFormed (require named Refusal.NoSuchProcess (Err Refusal.GuardCount))) t reply).table ≡ t
 refused-twice false named t reply = refl
 refused-twice true false t reply = refl
 refused-twice true true t reply = refl

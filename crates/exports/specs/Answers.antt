@@ -1,11 +1,11 @@
 -- To be believed. What an exported call hands back: the bytes of the table, those of the answer, and whether the table given and both buffers were long enough.
-use Rattle.std.specs.Prelude.{◌≡◌, ◌&&◌, ◌∷◌, ◌++◌}
+use Rattle.std.specs.Prelude.{◌≡◌, ◌&&◌, ◌∷◌, ◌++◌, Option, Some, None}
 use Rattle.rendezvous.specs.Numbers.{Said, said, made, ticket, place, same, outcome, withdrawn, too_late, movers, refusal}
 use Rattle.wire.specs.Claims.{Faithful}
 use Rattle.wire.specs.Layout.{table_length}
 use Rattle.wire.specs.Writing.{word_bytes, message_bytes, bytes_of}
 use Rattle.exports.specs.Layout.{answer_length}
-use Rattle.exports.specs.Types.{ℕ, Bool, true, cond, List, [], flatten, Option, some, none, length, drop, leb, Message, Reply}
+use Rattle.exports.specs.Types.{ℕ, Bool, true, cond, List, [], flatten, length, drop, leb, Message, Reply}
 
 -- the variant of answer and two bytes, a message, a word
 abbrev pub answer_parts : ℕ → ℕ → ℕ → Message → ℕ → List (List ℕ)
@@ -16,8 +16,8 @@ laid_out variant a b m word = flatten (answer_parts variant a b m word)
 
 -- a guard index, 0 where there is none
 abbrev pub index_byte : Option ℕ → ℕ
-index_byte none = 0
-index_byte (some i) = i
+index_byte None = 0
+index_byte (Some i) = i
 
 -- By the documents' numbers and letters: a step's place by its letter and its guard index; an outcome by guard index, partner and message; a
 -- refusal by its number; a ticket and the set of movers as the word; what a withdrawal says by the variant alone.

@@ -1,8 +1,9 @@
 -- To be believed. The script program for programs in other languages: the bytes of a session between two pieces of its input, and what each call gives.
 use Rattle.std.specs.Prelude.{◌/◌, min, not, map, eqb, ◌≡◌, ◌&&◌, ◌∷◌, ◌++◌}
+use Rattle.std.specs.Bool.{then_some}
 use Rattle.text.specs.Writing.{line_length}
 use Rattle.script.specs.Lines.{begun_length}
-use Rattle.script.specs.Feeding.{SessionState, start, table_if, fed, finished}
+use Rattle.script.specs.Feeding.{SessionState, start, fed, finished}
 use Rattle.script.specs.Session.{output}
 use Rattle.wire.specs.Reading.{byte, table_of}
 use Rattle.exports.specs.Layout.{begun_at, table_at, session_length}
@@ -12,7 +13,7 @@ use Rattle.exports.specs.Types.{ℕ, Bool, true, false, cond, List, [], flatten,
 unfoldable pub state_in : List ℕ → SessionState
 state_in bytes = record {
   begun = take (byte bytes 1) (take begun_length (drop begun_at bytes ++ replicate begun_length 0));
-  table = table_if (not (eqb (byte bytes 0) 0)) (table_of (drop table_at bytes));
+  table = then_some (not (eqb (byte bytes 0) 0)) (table_of (drop table_at bytes));
 }
 
 -- whether bytes are enough for a session

@@ -7,19 +7,16 @@ ghost use Rattle.exports.specs.Answers.{laid_out, index_byte, said_bytes, is_tab
 use crate::layout;
 use alternative::Message;
 use process::Place;
-use rendezvous::{Answer, Reply};
+use rendezvous::{Answer, Refusal, Reply};
 use wire::{TABLE_BYTES, encode, message_bytes, put_bytes, word_bytes};
 
 fn laid_out(variant: u8, a: u8, b: u8, m: Message, word: u32) -> [u8; layout::ANSWER_BYTES]
     ensures { result ≡ laid_out variant a b m word }
 {
-    let mut out = [0u8; layout::ANSWER_BYTES];
-    let three = [variant, a, b];
-    put_bytes(&mut out, 0, &three);
-    let message = message_bytes(m);
-    put_bytes(&mut out, layout::MESSAGE_AT, &message);
-    let number = word_bytes(word);
-    put_bytes(&mut out, layout::WORD_AT, &number);
+    let mut out = [0; layout::ANSWER_BYTES];
+    put_bytes(&mut out, 0, &[variant, a, b]);
+    put_bytes(&mut out, layout::MESSAGE_AT, &message_bytes(m));
+    put_bytes(&mut out, layout::WORD_AT, &word_bytes(word));
     out
 }
 
@@ -28,39 +25,38 @@ fn place_index(place: Place) -> u8
     ensures { result ≡ index_byte (index_of place) }
 {
     match place {
-        Place::Scanning(i) => i,
-        Place::Trying(i) => i,
-        Place::Committed(i, _) => i,
-        Place::Idle => 0,
-        Place::Entering => 0,
-        Place::Posting => 0,
-        Place::Opening => 0,
-        Place::Showing => 0,
-        Place::Asleep(_) => 0,
-        Place::Waiting => 0,
-        Place::Met(_, _) => 0,
+        Place::Scanning(i) | Place::Trying(i) | Place::Committed(i, _) => i,
+        Place::Idle
+        | Place::Entering
+        | Place::Posting
+        | Place::Opening
+        | Place::Showing
+        | Place::Asleep(_)
+        | Place::Waiting
+        | Place::Met(_, _) => 0,
     }
 }
 
-fn answer_bytes(answer: Answer) -> [u8; layout::ANSWER_BYTES]
+// The numbers are those that C reads (docs/BYTES.md).
+fn answer_bytes(answer: Result<Answer, Refusal>) -> [u8; layout::ANSWER_BYTES]
     ensures { result ≡ said_bytes (said answer) }
 {
     match answer {
-        Answer::Made => laid_out(0, 0, 0, Message::Nothing, 0),
-        Answer::Offered(ticket) => laid_out(1, 0, 0, Message::Nothing, ticket.0),
-        Answer::Moved(place) => laid_out(
+        Ok(Answer::Made) => laid_out(0, 0, 0, Message::Nothing, 0),
+        Ok(Answer::Offered(ticket)) => laid_out(1, 0, 0, Message::Nothing, ticket.0),
+        Ok(Answer::Moved(place)) => laid_out(
             2,
             place.letter(),
             place_index(place),
             Message::Nothing,
             0,
         ),
-        Answer::Unchanged => laid_out(3, 0, 0, Message::Nothing, 0),
-        Answer::Collected(i, q, m) => laid_out(4, i, q, m, 0),
-        Answer::Runnable(set) => laid_out(5, 0, 0, Message::Nothing, set),
-        Answer::Refused(refusal) => laid_out(6, refusal.number(), 0, Message::Nothing, 0),
-        Answer::Withdrawn => laid_out(7, 0, 0, Message::Nothing, 0),
-        Answer::TooLate => laid_out(8, 0, 0, Message::Nothing, 0),
+        Ok(Answer::Unchanged) => laid_out(3, 0, 0, Message::Nothing, 0),
+        Ok(Answer::Collected(i, q, m)) => laid_out(4, i, q, m, 0),
+        Ok(Answer::Runnable(set)) => laid_out(5, 0, 0, Message::Nothing, set),
+        Err(refusal) => laid_out(6, refusal.number(), 0, Message::Nothing, 0),
+        Ok(Answer::Withdrawn) => laid_out(7, 0, 0, Message::Nothing, 0),
+        Ok(Answer::TooLate) => laid_out(8, 0, 0, Message::Nothing, 0),
     }
 }
 
@@ -75,14 +71,12 @@ pub fn is_table(bytes: &[u8]) -> bool
 pub fn give(read: bool, reply: Reply, table: &mut [u8], answer: &mut [u8]) -> bool
     ensures { Gives read reply table.old answer.old table.new answer.new result }
 {
+    // `&`, so that the three tests are the one value that `Gives` says is returned
     let whole = read & (TABLE_BYTES <= table.len()) & (layout::ANSWER_BYTES <= answer.len());
     if !whole {
         return false;
     }
-    let t = reply.table;
-    let a = reply.answer;
-    encode(t, table);
-    let said = answer_bytes(a);
-    put_bytes(answer, 0, &said);
+    encode(reply.table, table);
+    put_bytes(answer, 0, &answer_bytes(reply.answer));
     true
 }

@@ -28,6 +28,8 @@ use through::{limit_through, reading_through};
 #[derive(Clone, Copy)]
 struct Pair(f32, f32);
 
+// The calls on a table are a line over `give` each; a function that takes the call as a closure would make none of them shorter.
+
 // A fresh table of n processes with naps of `nap` own steps.
 #[unsafe(no_mangle)]
 pub extern "C" fn rendezvous_create(n: u8, nap: u8, out: &mut [u8], answer: &mut [u8]) -> bool
@@ -47,10 +49,9 @@ pub extern "C" fn rendezvous_offer(
 ) -> bool
     ensures { Gives (is_table table.now) (offer (table_of table.now) p (offer_of guards.now)) out.old answer.old out.new answer.new result }
 {
-    let list = offer_of(guards);
     give(
         is_table(table),
-        decode(table).offer_list(p, list),
+        decode(table).offer_list(p, offer_of(guards)),
         out,
         answer,
     )
@@ -114,18 +115,17 @@ pub extern "C" fn rendezvous_script_feed(
 ) -> bool
     ensures { Feeds state.now piece.now after.old out.old after.new out.new taken.new filled.new result }
 {
+    // `&`, so that both tests are the one value that `Stored` says is returned
     let whole = is_session(state) & is_session(after);
     if !whole {
         *taken = 0;
         *filled = 0;
         return false;
     }
-    let session = session_in(state);
-    let fed = script::feed(session, piece, out);
+    let fed = script::feed(session_in(state), piece, out);
     *taken = fed.taken;
     *filled = fed.filled;
-    let next = fed.session;
-    put_session(next, after)
+    put_session(fed.session, after)
 }
 
 // What the end of the input prints, to the front of `out`, and how many bytes that is; nothing if `out` has no room for a line, or if the
@@ -137,8 +137,7 @@ pub extern "C" fn rendezvous_script_finish(state: &[u8], out: &mut [u8]) -> usiz
     if !is_session(state) {
         return 0;
     }
-    let session = session_in(state);
-    put_text(script::finish(session), out)
+    put_text(script::finish(session_in(state)), out)
 }
 
 // Carries the numbers of these lengths and offsets: of an answer where its word stands and how long it is, of a session where its table

@@ -5,7 +5,8 @@ ghost use Rattle.script.specs.Feeding.{state_held};
 ghost use Rattle.exports.specs.Scripts.{state_in, is_session, Stored};
 
 use crate::layout;
-use script::{BEGUN_BYTES, Session, least};
+use rendezvous::ProcessTable;
+use script::{BEGUN_BYTES, Session};
 use text::{LINE_BYTES, Text};
 use wire::{TABLE_BYTES, byte_at, decode, encode, flag_byte, from, put_bytes};
 
@@ -20,14 +21,12 @@ pub fn is_session(bytes: &[u8]) -> bool
 pub fn session_in(state: &[u8]) -> Session
     ensures { state_held result ≡ state_in state.now }
 {
-    let mut bytes = [0u8; BEGUN_BYTES];
+    let mut bytes = [0; BEGUN_BYTES];
     put_bytes(&mut bytes, 0, from(state, layout::BEGUN_AT));
-    let table = decode(from(state, layout::TABLE_AT));
     Session {
-        made: byte_at(state, 0) != 0,
         length: byte_at(state, 1) as usize,
-        bytes: bytes,
-        table: table,
+        bytes,
+        table: (byte_at(state, 0) != 0).then_some(decode(from(state, layout::TABLE_AT))),
     }
 }
 
@@ -35,19 +34,18 @@ pub fn session_in(state: &[u8]) -> Session
 pub fn put_session(session: Session, out: &mut [u8]) -> bool
     ensures { Stored true (state_held session) out.old out.new result }
 {
-    let table = session.table;
+    // where no table was made, that of no process stands in its place
+    let table = session.table.unwrap_or(ProcessTable::create(0, 0).table);
     // `encode` writes to the front of a buffer, so the table's bytes are laid out apart
-    let mut encoded = [0u8; TABLE_BYTES];
+    let mut encoded = [0; TABLE_BYTES];
     encode(table, &mut encoded);
     // a begun line never holds more bytes than it has room for, whatever a session says
-    let length = least(session.length, BEGUN_BYTES) as u8;
-    let head = [flag_byte(session.made), length];
-    let bytes = session.bytes;
+    let length = session.length.min(BEGUN_BYTES) as u8;
     if !is_session(out) {
         return false;
     }
-    put_bytes(out, 0, &head);
-    put_bytes(out, layout::BEGUN_AT, &bytes);
+    put_bytes(out, 0, &[flag_byte(session.table.is_some()), length]);
+    put_bytes(out, layout::BEGUN_AT, &session.bytes);
     put_bytes(out, layout::TABLE_AT, &encoded);
     true
 }
@@ -56,11 +54,10 @@ pub fn put_session(session: Session, out: &mut [u8]) -> bool
 pub fn put_text(text: Text, out: &mut [u8]) -> usize
     ensures { (result ≡ cond (leb line_length (length out.old)) (length (shown text)) 0) × (out.new ≡ take result (shown text) ++ drop result out.old) }
 {
-    let bytes = text.bytes;
-    let count = least(text.length, LINE_BYTES);
     if out.len() < LINE_BYTES {
         return 0;
     }
-    put_bytes(out, 0, &bytes[..count]);
-    count
+    let bytes = text.as_slice();
+    put_bytes(out, 0, bytes);
+    bytes.len()
 }

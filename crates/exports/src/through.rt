@@ -6,33 +6,31 @@ ghost use Rattle.exports.specs.Private.{facing, on_other, collected_of};
 
 use crate::Pair;
 use alternative::{Action, Guard, GuardList, Message, blank_guard};
-use process::{Place, Process, Signal, TransactionId, fresh_process};
-use rendezvous::{Answer, MOST_PROCESSES, ProcessTable, fresh_head};
+use process::{Place, Process, TransactionId, fresh_process};
+use rendezvous::{Answer, Head, MOST_PROCESSES, ProcessTable, Refusal, fresh_head};
 use wire::SLOTS;
 
 // A process that accepts, with one guard on the other of two, in both of its lists.
 fn on_other(partner: u8, action: Action, place: Place) -> Process
     ensures { result ≡ on_other partner action place }
 {
-    let blank = blank_guard();
-    let mut guards = [blank; SLOTS];
+    let mut guards = [blank_guard(); SLOTS];
     guards[0] = Guard {
         enabled: true,
-        partner: partner,
+        partner,
         kind: 0,
         rank: 0,
-        action: action,
+        action,
     };
-    let altlist = guards;
     Process {
-        place: place,
-        signal: Signal::Absent,
+        place,
+        signal: None,
         transaction: TransactionId(0),
         accepting: true,
         count: 1,
         altcount: 1,
-        guards: guards,
-        altlist: altlist,
+        guards,
+        altlist: guards,
     }
 }
 
@@ -41,33 +39,23 @@ fn on_other(partner: u8, action: Action, place: Place) -> Process
 fn facing_table(place: Place, first: Action, second: Action) -> ProcessTable
     ensures { result ≡ facing place first second }
 {
-    let fresh = fresh_process();
-    let mut processes = [fresh; MOST_PROCESSES as usize];
+    let mut processes = [fresh_process(); MOST_PROCESSES as usize];
     processes[0] = on_other(1, first, place);
     processes[1] = on_other(0, second, Place::Trying(0));
-    let next = TransactionId(3);
-    let mut head = fresh_head(2, 1);
-    head.next = next;
-    ProcessTable {
-        head: head,
-        processes: processes,
-    }
+    let head = Head {
+        next: TransactionId(3),
+        ..fresh_head(2, 1)
+    };
+    ProcessTable { head, processes }
 }
 
 // The message of a collection.
-fn collected_of(answer: Answer) -> Message
+fn collected_of(answer: Result<Answer, Refusal>) -> Message
     ensures { result ≡ collected_of answer }
 {
     match answer {
-        Answer::Collected(_, _, m) => m,
-        Answer::Made => Message::Nothing,
-        Answer::Offered(_) => Message::Nothing,
-        Answer::Moved(_) => Message::Nothing,
-        Answer::Unchanged => Message::Nothing,
-        Answer::Withdrawn => Message::Nothing,
-        Answer::TooLate => Message::Nothing,
-        Answer::Runnable(_) => Message::Nothing,
-        Answer::Refused(_) => Message::Nothing,
+        Ok(Answer::Collected(_, _, m)) => m,
+        _ => Message::Nothing,
     }
 }
 
@@ -75,21 +63,17 @@ fn collected_of(answer: Answer) -> Message
 fn refused_to(table: ProcessTable) -> ProcessTable
     ensures { result ≡ table }
 {
-    let blank = blank_guard();
-    let guards = [blank; SLOTS];
-    let list = GuardList {
+    let none = GuardList {
         count: 0,
-        guards: guards,
+        guards: [blank_guard(); SLOTS],
     };
-    let reply = table.offer_list(0, list);
-    reply.table
+    table.offer_list(0, none).table
 }
 
 fn stepped(table: ProcessTable, p: u8) -> ProcessTable
     ensures { result ≡ (step table p).table }
 {
-    let reply = table.step(p);
-    reply.table
+    table.step(p).table
 }
 
 // A message that process 0 sends: it posts it (rule 10), and process 1 commits (7), takes it (9) and collects it.
@@ -98,9 +82,7 @@ fn received(m: Message) -> Message
 {
     let table = refused_to(facing_table(Place::Posting, Action::Send(m), Action::Receive));
     let met = stepped(stepped(stepped(table, 0), 1), 1);
-    let reply = met.collect(1);
-    let answer = reply.answer;
-    collected_of(answer)
+    collected_of(met.collect(1).answer)
 }
 
 // A message that process 1 sends: it commits (7) and signals it (9), and process 0 absorbs it (13) and collects it.
@@ -109,9 +91,7 @@ fn sent(m: Message) -> Message
 {
     let table = refused_to(facing_table(Place::Waiting, Action::Receive, Action::Send(m)));
     let met = stepped(stepped(stepped(table, 1), 1), 0);
-    let reply = met.collect(0);
-    let answer = reply.answer;
-    collected_of(answer)
+    collected_of(met.collect(0).answer)
 }
 
 pub fn reading_through(x: f32) -> f32
@@ -119,9 +99,7 @@ pub fn reading_through(x: f32) -> f32
 {
     match received(sent(Message::Reading(x))) {
         Message::Reading(y) => y,
-        Message::Nothing => 0.0,
-        Message::Whole(_) => 0.0,
-        Message::Limit(_, _) => 0.0,
+        _ => 0.0,
     }
 }
 
@@ -130,8 +108,6 @@ pub fn limit_through(low: f32, high: f32) -> Pair
 {
     match received(sent(Message::Limit(low, high))) {
         Message::Limit(a, b) => Pair(a, b),
-        Message::Nothing => Pair(0.0, 0.0),
-        Message::Whole(_) => Pair(0.0, 0.0),
-        Message::Reading(_) => Pair(0.0, 0.0),
+        _ => Pair(0.0, 0.0),
     }
 }

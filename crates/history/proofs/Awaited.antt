@@ -1,4 +1,5 @@
 -- A process that another has committed to, and that has no signal of it yet, gets one: the other is still at C.
+use Rattle.std.specs.Prelude.{Some}
 use Prim.Native.Nat.{ℕ}
 use mathlib.Core.Path.{◌≡◌, refl, sym, subst, subst⁻¹}
 use mathlib.Core.Bool.{false}
@@ -10,7 +11,6 @@ use Rattle.process.specs.Rules.{at_place, with_signal, with_accepting}
 use Rattle.history.proofs.View.{View, upd, upd_same, upd_other, upd-comm, entered-each}
 use Rattle.history.proofs.Invariant.{Commits, Shows, Bound}
 use Rattle.history.proofs.Places.{shows-elim, absent-present}
-use Rattle.process.specs.declared.Signal.{Signal}
 use Rattle.history.proofs.Tame.{Held}
 
 abbrev pub Awaited : View → Type 0
@@ -52,7 +52,7 @@ module _ (v : View) (a : Awaited v) (p q i j : ℕ) (ne : p ≡ q → ⊥) (name
       uq = upd_other v p _ q (λ z. ne (sym z))
 
   -- rule 9: the partner first, so that the mover's commit binds nobody any more
-  pub awaited-signal : (v p).place ≡ Place.Committed i j → (m k : Message) → Awaited (upd (upd v q (with_signal (v q) (Signal.Present j k))) p (at_place (v p) (Place.Met i m)))
+  pub awaited-signal : (v p).place ≡ Place.Committed i j → (m k : Message) → Awaited (upd (upd v q (with_signal (v q) (Some (j, k)))) p (at_place (v p) (Place.Met i m)))
   awaited-signal e m k =
       awaited-put u (awaited-put v a q _ (λ b. absurd (absent-present _ j k b.deaf refl)) (λ r l c _. idle-shows (v q).place r l shows c)) p _
       (λ b. absurd b.shows)
@@ -60,10 +60,10 @@ module _ (v : View) (a : Awaited v) (p q i j : ℕ) (ne : p ≡ q → ⊥) (name
       absent-present _ j k (subst (λ (y : Process). Bound y) (told r c'.0) b).deaf refl)
     where
       u : View
-      u = upd v q (with_signal (v q) (Signal.Present j k))
+      u = upd v q (with_signal (v q) (Some (j, k)))
 
       up : u p ≡ v p
       up = upd_other v q _ p ne
 
-      told : (r : ℕ) → i ≡ r → u (own_guard (u p) r).partner ≡ with_signal (v q) (Signal.Present j k)
+      told : (r : ℕ) → i ≡ r → u (own_guard (u p) r).partner ≡ with_signal (v q) (Some (j, k))
       told r z = rw (← z, up, names) (upd_same v q _)

@@ -1,9 +1,10 @@
 -- Demand 3 of the tables, and that they stay well-formed: from any fresh table every list of calls goes well.
+use Rattle.std.specs.Prelude.{Some, None}
 use Prim.Native.Nat.{ℕ, ◌≤◌}
 use mathlib.Core.Path.{◌≡◌, refl, ◌∙◌, subst⁻¹}
 use mathlib.Core.Bool.{Bool, true, false, ◌&&◌, cond}
 use mathlib.Core.List.{List}
-use mathlib.Core.Option.{some, none, none-ne-some}
+use Rattle.std.proofs.lemmas.Option.{none-some}
 use native.Mathlib.Omega.{arith}
 use lib.Dec.{ltb}
 use borrow.Author.Tests.{ltb-false}
@@ -32,9 +33,9 @@ open-offer : (t : ProcessTable) → Good t → (p : ℕ) → open_offer t p ≡ 
 open-offer t good p = at (ltb p t.head.n) refl (is_idle (process t p).place) refl
   where
     at : (a : Bool) → ltb p t.head.n ≡ a → (c : Bool) → is_idle (process t p).place ≡ c
-        → cond (a && is_open (process t p)) (some (offer_by (process t p))) none ≡ open_of (process t p)
+        → cond (a && is_open (process t p)) (Some (offer_by (process t p))) None ≡ open_of (process t p)
     at true e c f = refl
-    at false e true f = subst⁻¹ (λ (pl : Place). none ≡ cond (open_at pl (process t p).accepting) (some (offer_by (process t p))) none) (idle-is (process t p).place f) refl
+    at false e true f = subst⁻¹ (λ (pl : Place). None ≡ cond (open_at pl (process t p).accepting) (Some (offer_by (process t p))) None) (idle-is (process t p).place f) refl
     at false e false f = absurd (omega (arith, ltb-false p t.head.n e, (good.inv.alone p).there f))
 
 ends : (t : ProcessTable) (b : History) → Sound t b → Ends tables t b
@@ -48,7 +49,7 @@ pub fresh-in-step : (n d : ℕ) → InStep (fresh_table n d) empty_history
 fresh-in-step n d = record {
   counts = refl;
   each = λ p. fresh-each (Agrees (lists_of (process (fresh_table n d))) empty_history p) (record { offer = refl; owed = refl; at = tt; told = tt }) (record { offer = refl; owed = refl; at = tt; told = tt }) n d p;
-  once = record { differ = tt; unused = λ t l. tt; below = λ p o e. absurd (none-ne-some o e); unmet = λ p o e. tt; apart = λ p q o r ne e. absurd (none-ne-some o e) };
+  once = record { differ = tt; unused = λ t l. tt; below = λ p o e. absurd (none-some o e); unmet = λ p o e. tt; apart = λ p q o r ne e. absurd (none-some o e) };
   awaited = λ p. fresh-each (λ x. Bound x → Held (process (fresh_table n d)) p) (λ b. absurd b.shows) (λ b. absurd b.shows) n d p;
 }
 

@@ -1,14 +1,13 @@
 -- The book follows a commit, and so every step.
+use Rattle.std.specs.Prelude.{Option, Some, None}
 use Prim.Native.Nat.{ℕ, suc, ◌+◌, ◌<◌}
 use mathlib.Core.Path.{◌≡◌, refl, sym, ◌∙◌, subst, subst⁻¹}
 use mathlib.Core.Bool.{Bool, true, false, cond, true≢false, false≢true}
 use mathlib.Core.List.{List, [], ◌∷◌}
-use mathlib.Core.Option.{some, none}
 use lib.Dec.{ltb}
 use borrow.Author.Tests.{eq-eqb, ne_eqb}
 use Rattle.alternative.specs.declared.Action.{Action}
 use Rattle.alternative.specs.declared.Guard.{Guard}
-use Rattle.alternative.specs.declared.Found.{Found}
 use Rattle.alternative.specs.Guards.{opposite, guards_match, kept_match}
 use Rattle.alternative.specs.Exchange.{sent_by, received_by}
 use Rattle.process.specs.declared.Place.{Place}
@@ -46,12 +45,12 @@ theirs-message (Action.Send m) Action.Receive e = refl
 theirs-message (Action.Send m) (Action.Send n) e = absurd (false≢true e)
 
 -- an offer shown is open while its wake count is 0
-shows-open : (place : Place) (accepting : Bool) (o : Transaction) → Shows place → cond (open_at place accepting) (some o) none ≡ cond accepting (some o) none
-shows-open place accepting o = shows-elim (λ l. cond (open_at l accepting) (some o) none ≡ cond accepting (some o) none) refl refl place
+shows-open : (place : Place) (accepting : Bool) (o : Transaction) → Shows place → cond (open_at place accepting) (Some o) None ≡ cond accepting (Some o) None
+shows-open place accepting o = shows-elim (λ l. cond (open_at l accepting) (Some o) None ≡ cond accepting (Some o) None) refl refl place
 
 module _ {t : ProcessTable} (good : Good t) {b : History} (k : InStep t b) (p : ℕ) (below : p < t.head.n) (i j : ℕ) (e : (process t p).place ≡ Place.Trying i)
     (accepting : (process t (own_guard (process t p) i).partner).accepting ≡ true)
-    (f : kept_match p (own_guard (process t p) i) (own_guard (process t p) i).partner (posted_list (process t (own_guard (process t p) i).partner)) ≡ Found.At j) where
+    (f : kept_match p (own_guard (process t p) i) (own_guard (process t p) i).partner (posted_list (process t (own_guard (process t p) i).partner)) ≡ Some j) where
   commits : Followed t b (Step p) (applied t p (own_guard (process t p) i).partner (Both (at_place (process t p) (Place.Committed i j)) (with_accepting (process t (own_guard (process t p) i).partner) false)))
   unfolding enter with_rendezvous committing
   commits = record {
@@ -106,7 +105,7 @@ module _ {t : ProcessTable} (good : Good t) {b : History} (k : InStep t b) (p : 
       posted : posted_list y ≡ own_list y
       posted = (shown (process t) good.inv q shows).posted
 
-      found : kept_match p g q (own_list y) ≡ Found.At j
+      found : kept_match p g q (own_list y) ≡ Some j
       found = rw posted at f
 
       tried : is_at "T" x.place ≡ true
@@ -130,10 +129,10 @@ module _ {t : ProcessTable} (good : Good t) {b : History} (k : InStep t b) (p : 
       after : History
       after = with_rendezvous b p i (offer_by x) g j (offer_by y) h
 
-      open-p : b.opened p ≡ some (offer_by x)
+      open-p : b.opened p ≡ Some (offer_by x)
       open-p = sym (offer-at (k.each p) e)
 
-      open-q : b.opened q ≡ some (offer_by y)
+      open-q : b.opened q ≡ Some (offer_by y)
       open-q = sym (k.each q).offer ∙ shows-open y.place _ (offer_by y) shows ∙ rw accepting refl
 
       mine : Agrees (lists_of (process t)) after p (at_place x (Place.Committed i j))
@@ -169,12 +168,12 @@ module _ {t : ProcessTable} (good : Good t) {b : History} (k : InStep t b) (p : 
 module _ {t : ProcessTable} (good : Good t) {b : History} (k : InStep t b) (p : ℕ) (below : p < t.head.n) where
   -- rules 7 and 8: the search found a guard and the partner accepts, or the scan goes on
   tries : (i : ℕ) → (process t p).place ≡ Place.Trying i → let q = (own_guard (process t p) i).partner in (accepting : Bool) → (process t q).accepting ≡ accepting
-      → (found : Found) → kept_match p (own_guard (process t p) i) q (posted_list (process t q)) ≡ found
+      → (found : Option ℕ) → kept_match p (own_guard (process t p) i) q (posted_list (process t q)) ≡ found
       → Followed t b (Step p) (applied t p q (try (process t p) i (process t q) accepting found))
-  tries i e true a (Found.At j) f = commits good k p below i j e a f
-  tries i e true a Found.Missing f = scans good k p below _ e refl refl (λ i j c. c) _ (suc i)
-  tries i e false a (Found.At j) f = scans good k p below _ e refl refl (λ i j c. c) _ (suc i)
-  tries i e false a Found.Missing f = scans good k p below _ e refl refl (λ i j c. c) _ (suc i)
+  tries i e true a (Some j) f = commits good k p below i j e a f
+  tries i e true a None f = scans good k p below _ e refl refl (λ i j c. c) _ (suc i)
+  tries i e false a (Some j) f = scans good k p below _ e refl refl (λ i j c. c) _ (suc i)
+  tries i e false a None f = scans good k p below _ e refl refl (λ i j c. c) _ (suc i)
 
   -- rule 2: an early step of a nap only counts
   sleeps : (s : ℕ) → (process t p).place ≡ Place.Asleep s → (early : Bool) → Followed t b (Step p) (applied t p 0 (sleep_at (process t p) s early))

@@ -1,4 +1,5 @@
 -- The day sheet adds up: after any calls from a fresh table each ticket is accounted for, and the totals are those of the run and of the accepted offers.
+use Rattle.std.specs.Prelude.{None}
 use Prim.Native.Nat.{ℕ, ◌+◌, ◌<◌}
 use mathlib.Core.Path.{◌≡◌, refl, sym, ap, ◌∙◌}
 use mathlib.Core.Bool.{Bool, true, false, cond, false≢true}
@@ -80,9 +81,9 @@ module _ {t : ProcessTable} (good : Good t) (p : ℕ) (below : p < t.head.n) whe
   applied-counts q l Neither m = none_made _ _ refl refl (stays-made t p (process t p).place)
   applied-counts q l (Own x) m =
       let c = moment-counted t p x.place (is_at "T" (process t p).place) (λ e. absurd (false≢true (sym m.uncommitted ∙ e))) in
-      let none : met_at x.place ≡ 0 = rw m.uncommitted refl in
+      let None : met_at x.place ≡ 0 = rw m.uncommitted refl in
       record {
-        meetings = rw (put-there good p x below) (omega (arith, c.0, none));
+        meetings = rw (put-there good p x below) (omega (arith, c.0, None));
         withdrawn = rw (put-there good p x below) (omega (arith, c.1));
         offers = omega arith;
       }

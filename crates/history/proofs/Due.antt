@@ -1,14 +1,13 @@
 -- How a book goes with a table: the same next ticket and open offers, and each outcome of a rendezvous due from its commit to its collection.
+use Rattle.std.specs.Prelude.{Option, Some, None}
 use Prim.Native.Nat.{ℕ}
 use mathlib.Core.Path.{◌≡◌, refl, sym, ◌∙◌, subst, fun_ext}
 use mathlib.Core.Bool.{Bool, true, false, cond, true≢false}
 use mathlib.Core.List.{List}
-use mathlib.Core.Option.{Option, some, none}
 use lib.ListN.{get_or}
 use Rattle.alternative.specs.declared.Guard.{Guard}
 use Rattle.alternative.specs.Guards.{blank}
 use Rattle.alternative.specs.Exchange.{sent_by, received_by}
-use Rattle.process.specs.declared.Signal.{Signal}
 use Rattle.process.specs.declared.Place.{Place}
 use Rattle.process.specs.declared.Process.{Process}
 use Rattle.rendezvous.specs.declared.ProcessTable.{ProcessTable}
@@ -21,10 +20,11 @@ use Rattle.history.specs.NothingLost.{is_owed, is_due}
 use Rattle.history.proofs.View.{View, upd, entered-each}
 use Rattle.history.proofs.Once.{Once}
 use Rattle.history.proofs.Awaited.{Awaited}
+use Rattle.alternative.specs.declared.Message.{Message}
 
 -- the open offer of a process with record x
 abbrev pub open_of : Process → Option Transaction
-open_of x = cond (is_open x) (some (offer_by x)) none
+open_of x = cond (is_open x) (Some (offer_by x)) None
 
 -- the lists that the processes offer
 abbrev pub lists_of : View → ℕ → List Guard
@@ -32,18 +32,18 @@ lists_of v p = own_list (v p)
 
 -- due by the commit of p with guard i, which is g, to guard j of the process that g names: rule 9 will say the same
 pub record Pledged (lists : ℕ → List Guard) (due : ℕ → Option Due) (p i : ℕ) (g : Guard) (j : ℕ) : Type 0 where
-  pub mine : due p ≡ some (record { index = i; partner = g.partner; message = received_by g.action (get_or (lists g.partner) j blank).action })
-  pub theirs : due g.partner ≡ some (record { index = j; partner = p; message = sent_by g.action })
+  pub mine : due p ≡ Some (record { index = i; partner = g.partner; message = received_by g.action (get_or (lists g.partner) j blank).action })
+  pub theirs : due g.partner ≡ Some (record { index = j; partner = p; message = sent_by g.action })
 
 -- due by the place of p, whose own list is gs; at the other places nothing is asked
 abbrev pub DueAt : (ℕ → List Guard) → (ℕ → Option Due) → ℕ → List Guard → Place → Type 0
 DueAt lists due p gs place = carried (Unit {0}) (λ i. Unit {0}) (λ i j. Pledged lists due p i (get_or gs i blank) j) (λ s. Unit {0})
-    (λ i m. due p ≡ some (record { index = i; partner = (get_or gs i blank).partner; message = m })) place
+    (λ i m. due p ≡ Some (record { index = i; partner = (get_or gs i blank).partner; message = m })) place
 
 -- due by a signal
-abbrev pub DueBy : List Guard → Signal → Option Due → Type 0
-DueBy gs Signal.Absent d = Unit {0}
-DueBy gs (Signal.Present j m) d = d ≡ some (record { index = j; partner = (get_or gs j blank).partner; message = m })
+abbrev pub DueBy : List Guard → Option (ℕ × Message) → Option Due → Type 0
+DueBy gs None d = Unit {0}
+DueBy gs (Some (j, m)) d = d ≡ Some (record { index = j; partner = (get_or gs j blank).partner; message = m })
 
 -- a book and process p with record x, among lists of the processes
 pub record Agrees (lists : ℕ → List Guard) (b : History) (p : ℕ) (x : Process) : Type 0 where
@@ -63,9 +63,9 @@ abbrev pub InStep : ProcessTable → History → Type 0
 InStep t b = InStepOf t.head.next.0 (process t) b
 
 -- nothing is due
-pub none-due : (d : Option Due) → is_due d ≡ false → d ≡ none
-none-due none e = refl
-none-due (some d) e = absurd (true≢false e)
+pub none-due : (d : Option Due) → is_due d ≡ false → d ≡ None
+none-due None e = refl
+none-due (Some d) e = absurd (true≢false e)
 
 -- nothing is due to one with an open offer
 pub open-unowed : (pl : Place) (accepting : Bool) → open_at pl accepting ≡ true → is_owed pl accepting ≡ false
@@ -83,8 +83,8 @@ open-unowed (Place.Met i m) a o = absurd (true≢false (sym o))
 
 -- what the book has for a process at a place
 module _ {lists : ℕ → List Guard} {b : History} {p : ℕ} {x : Process} (a : Agrees lists b p x) {place : Place} (e : x.place ≡ place) where
-  pub offer-at : cond (open_at place x.accepting) (some (offer_by x)) none ≡ b.opened p
-  offer-at = subst (λ (l : Place). cond (open_at l x.accepting) (some (offer_by x)) none ≡ b.opened p) e a.offer
+  pub offer-at : cond (open_at place x.accepting) (Some (offer_by x)) None ≡ b.opened p
+  offer-at = subst (λ (l : Place). cond (open_at l x.accepting) (Some (offer_by x)) None ≡ b.opened p) e a.offer
 
   pub owed-at : is_due (b.due p) ≡ is_owed place x.accepting
   owed-at = subst (λ (l : Place). is_due (b.due p) ≡ is_owed l x.accepting) e a.owed

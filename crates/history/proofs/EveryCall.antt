@@ -1,10 +1,10 @@
 -- The book follows every call on a good table.
+use Rattle.std.specs.Prelude.{Some, None}
 use Prim.Native.Nat.{ℕ, suc, ◌+◌, ◌<◌}
 use mathlib.Core.Path.{◌≡◌, refl, sym, ◌∙◌, ap, subst⁻¹}
 use mathlib.Core.Bool.{true, false}
 use mathlib.Core.List.{List, [], ◌∷◌, ◌++◌, append-nil}
 use mathlib.Core.Logic.{inr}
-use mathlib.Core.Option.{some, none}
 use native.Mathlib.Omega.{arith}
 use borrow.Author.Tests.{eq-eqb, ne_eqb, lt-ltb}
 use Rattle.alternative.specs.declared.Message.{Message}
@@ -58,7 +58,7 @@ module _ {t : ProcessTable} (good : Good t) {b : History} (k : InStep t b) (p : 
       x = entering (process t p) t.head.next (lent gs)
 
       after : History
-      after = record { next = suc b.next; opened = entered_for p (some (record { id = b.next; guards = gs })) b.opened; due = b.due; run = b.run }
+      after = record { next = suc b.next; opened = entered_for p (Some (record { id = b.next; guards = gs })) b.opened; due = b.due; run = b.run }
 
       idle : (process t p).place ≡ Place.Idle
       idle = idle-is (process t p).place a.idle
@@ -101,7 +101,7 @@ module _ {t : ProcessTable} (good : Good t) {b : History} (k : InStep t b) (p : 
       x = at_place (process t p) Place.Idle
 
       after : History
-      after = record { next = b.next; opened = b.opened; due = entered_for p none b.due; run = b.run }
+      after = record { next = b.next; opened = b.opened; due = entered_for p None b.due; run = b.run }
 
       own : Agrees (lists_of (process t)) after p x
       own = record { offer = offer-at (k.each p) e; owed = rw (eq-eqb p p refl) refl; at = tt; told = rw (fine (process t) good.inv p _ e).1 tt }
@@ -135,9 +135,9 @@ module _ {t : ProcessTable} (good : Good t) {b : History} (k : InStep t b) (p : 
       moment = record { p = p; id = (process t p).transaction.0 }
 
       after : History
-      after = record { next = b.next; opened = entered_for p none b.opened; due = b.due; run = b.run ++ (Withdrew moment ∷ []) }
+      after = record { next = b.next; opened = entered_for p None b.opened; due = b.due; run = b.run ++ (Withdrew moment ∷ []) }
 
-      opened : some (offer_by (process t p)) ≡ b.opened p
+      opened : Some (offer_by (process t p)) ≡ b.opened p
       opened = rw o at (k.each p).offer
 
       made : made_by t (Withdraw p) (put t p x) ≡ Withdrew moment ∷ []

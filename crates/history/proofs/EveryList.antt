@@ -1,9 +1,10 @@
 -- The one induction over calls: on any machine whose calls the book follows, one by one, the claim of demand 3 holds of every list of them.
+use Rattle.std.specs.Prelude.{Some}
 use Prim.Native.Nat.{ℕ}
 use mathlib.Core.Path.{◌≡◌, refl, sym, ◌∙◌, subst}
 use mathlib.Core.Bool.{false}
 use mathlib.Core.List.{List, [], ◌∷◌, ◌++◌, append-nil, append_assoc, append_cancel_left}
-use mathlib.Core.Option.{some, some-injective}
+use Rattle.std.proofs.lemmas.Option.{same_Some}
 use Rattle.alternative.specs.Guards.{offers_match}
 use Rattle.rendezvous.specs.Numbers.{Said}
 use Rattle.rendezvous.specs.Run.{Call, after_all}
@@ -14,7 +15,7 @@ use Rattle.history.specs.Demand3.{Joins, EntryJoins, TicketIsNext, OutcomeWasDue
 -- The book b follows a call that says this and makes these moments: it is not stuck, it has the moments, ticket or outcome of the call, and R holds of the book after it.
 pub record Follows (b : History) (c : Call) (says : Said) (makes : List Moment) (R : History → Type 0) : Type 0 where
   pub after : History
-  pub entered : enter b c (seen says) ≡ some after
+  pub entered : enter b c (seen says) ≡ Some after
   pub run : after.run ≡ b.run ++ makes
   pub joins : (r : Rendezvous) → makes ≡ Joined r ∷ [] → Joins b r
   pub ticket : TicketIsNext b c says after
@@ -29,12 +30,12 @@ FollowsOn m R s b c = Follows b c (m.says s c) (m.makes s c) (R (m.after s c))
 pub record Ends (m : Machine) (s : m.State) (b : History) : Type 0 where
   pub once : AllDiffer (ids_of b.run)
   pub opens : (p : ℕ) → m.opened s p ≡ b.opened p
-  pub rests : m.Rests s → (p q : ℕ) (o r : Transaction) → (p ≡ q → ⊥) → m.opened s p ≡ some o → m.opened s q ≡ some r → offers_match p o.guards q r.guards ≡ false
+  pub rests : m.Rests s → (p q : ℕ) (o r : Transaction) → (p ≡ q → ⊥) → m.opened s p ≡ Some o → m.opened s q ≡ Some r → offers_match p o.guards q r.guards ≡ false
 
 -- of a list of calls: what the claim says of each, and R after the last
 pub record Reaches (m : Machine) (R : m.State → History → Type 0) (s : m.State) (b : History) (calls : List Call) : Type 0 where
   pub book : History
-  pub never_stuck : book_after_all m s b calls ≡ some book
+  pub never_stuck : book_after_all m s b calls ≡ Some book
   pub related : R (after_all m.after s calls) book
   pub run : book.run ≡ b.run ++ made_by_all m s calls
   pub joins : EachCall m EntryJoins s b calls
@@ -43,10 +44,10 @@ pub record Reaches (m : Machine) (R : m.State → History → Type 0) (s : m.Sta
 
 -- a fact of the first call and of the others, which go on from the book that the first one leaves
 each-call : (m : Machine) (Fact : History → Call → Said → History → Type 0) (s : m.State) (b : History) (c : Call) (cs : List Call) (after : History)
-    → enter b c (seen (m.says s c)) ≡ some after → Fact b c (m.says s c) after → EachCall m Fact (m.after s c) after cs → EachCall m Fact s b (c ∷ cs)
+    → enter b c (seen (m.says s c)) ≡ Some after → Fact b c (m.says s c) after → EachCall m Fact (m.after s c) after cs → EachCall m Fact s b (c ∷ cs)
 unfolding EachCall
 each-call m Fact s b c cs after e first rest other f =
-    subst (λ (h : History). Fact b c (m.says s c) h × EachCall m Fact (m.after s c) h cs) (some-injective after other (sym e ∙ f)) (first, rest)
+    subst (λ (h : History). Fact b c (m.says s c) h × EachCall m Fact (m.after s c) h cs) (same_Some after other (sym e ∙ f)) (first, rest)
 
 module _ (m : Machine) (R : m.State → History → Type 0) (follows : (s : m.State) (b : History) → R s b → (c : Call) → FollowsOn m R s b c) where
   pub reaches : (s : m.State) (b : History) → R s b → (calls : List Call) → Reaches m R s b calls

@@ -1,12 +1,11 @@
 -- What the invariant says of a process at its place, of the guard that it is at, and of the process that it has committed to.
+use Rattle.std.specs.Prelude.{Some, None}
 use Prim.Native.Nat.{ℕ}
 use mathlib.Core.Path.{◌≡◌, refl, sym, ◌∙◌, subst}
 use mathlib.Core.Bool.{true, false≢true}
-use mathlib.Core.Option.{some}
 use Rattle.alternative.specs.Guards.{guards_match}
 use Rattle.process.specs.declared.Place.{Place}
 use Rattle.process.specs.declared.Process.{Process}
-use Rattle.process.specs.declared.Signal.{Signal}
 use Rattle.process.specs.Process.{index_of, own_list, posted_list, own_guard, open_at, is_open}
 use Rattle.rendezvous.specs.declared.Head.{Head}
 use Rattle.history.proofs.View.{View}
@@ -19,10 +18,10 @@ module _ {head : Head} (v : View) (inv : Inv head v) (p : ℕ) where
   fine pl e = rw e at (inv.alone p).fine
 
   -- the guard that a process is at is enabled, and names another process
-  pub at_on : (i : ℕ) → index_of (v p).place ≡ some i → On (own_list (v p)) i
+  pub at_on : (i : ℕ) → index_of (v p).place ≡ Some i → On (own_list (v p)) i
   at_on i e = subst (OnAt (own_list (v p))) e (inv.alone p).on
 
-  pub at_names : (i : ℕ) → index_of (v p).place ≡ some i → NamesOther head.n p (own_guard (v p) i)
+  pub at_names : (i : ℕ) → index_of (v p).place ≡ Some i → NamesOther head.n p (own_guard (v p) i)
   at_names i e = fits-names head.n p (v p).count (v p).guards (inv.alone p).own i (at_on i e)
 
   -- what a process shows, and that one which is still accepting does
@@ -35,7 +34,7 @@ module _ {head : Head} (v : View) (inv : Inv head v) (p : ℕ) where
   accepts = accepting-shows (v p).place _ _ _ _ (inv.alone p).fine
 
   -- an open offer has no signal
-  pub silent : is_open (v p) ≡ true → (v p).signal ≡ Signal.Absent
+  pub silent : is_open (v p) ≡ true → (v p).signal ≡ None
   silent = open-silent (v p).place _ _ _ _ (inv.alone p).fine
 
   -- a process committed to is bound, on guards that match

@@ -1,8 +1,8 @@
 -- A good table is well-formed.
+use Rattle.std.specs.Prelude.{Some}
 use Prim.Native.Nat.{ℕ, zero, suc}
 use mathlib.Core.Path.{◌≡◌, refl, subst}
 use mathlib.Core.Bool.{Bool, true}
-use mathlib.Core.Option.{some}
 use Rattle.alternative.specs.declared.Message.{Message}
 use Rattle.alternative.proofs.Tests.{both}
 use native.Mathlib.Omega.{arith}
@@ -30,7 +30,7 @@ module _ (t : ProcessTable) (good : Good t) where
   place-fits : (p : ℕ) → place_fits t.head.nap (process t p).count (process t (partner_of (process t p))).altcount (process t p).place ≡ true
   place-fits p = by-carried (λ fits. fits ≡ true) true _ _ _ _ (process t p).place refl own (λ i j e. rw (own i (rw e refl), kept i j e)) sleeps outcome
     where
-      own : (i : ℕ) → index_of (process t p).place ≡ some i → ltb i (process t p).count ≡ true
+      own : (i : ℕ) → index_of (process t p).place ≡ Some i → ltb i (process t p).count ≡ true
       own i e = on_below (process t p).guards (process t p).count i (at_on (process t) good.inv p i e)
 
       -- the partner shows its list

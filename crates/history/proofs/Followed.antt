@@ -1,16 +1,14 @@
 -- What it means that the book follows a call; it does where the call is refused, and at every step that is no commit.
+use Rattle.std.specs.Prelude.{Option, Some, None, Ok}
 use Prim.Native.Nat.{ℕ, suc, ◌<◌}
 use Prim.Native.Char.{code}
 use mathlib.Core.Path.{◌≡◌, refl, sym, ◌∙◌, subst, subst⁻¹}
 use mathlib.Core.Bool.{Bool, true, false, not, ◌&&◌, cond}
 use mathlib.Core.List.{List, [], ◌∷◌, append-nil}
 use mathlib.Core.Logic.{inl}
-use mathlib.Core.Option.{some}
 use lib.Dec.{eqb}
 use native.Mathlib.Omega.{arith}
-use Rattle.alternative.specs.declared.Found.{Found}
 use Rattle.alternative.specs.Guards.{next_enabled}
-use Rattle.process.specs.declared.Signal.{Signal}
 use Rattle.process.specs.declared.Place.{Place}
 use Rattle.process.specs.declared.State.{State}
 use Rattle.process.specs.declared.Process.{Process}
@@ -38,6 +36,7 @@ use Rattle.history.proofs.GoodTable.{put_one, put-there, put_two}
 use Rattle.history.proofs.Awaited.{awaited-put, hidden, awaited-signal}
 use Rattle.history.proofs.EveryList.{Follows}
 use Rattle.history.proofs.Due.{lists_of, DueBy, Agrees, InStepOf, InStep, lists-same, offer-at, owed-at, due-at, each_two}
+use Rattle.alternative.specs.declared.Message.{Message}
 
 -- on table t, where the call replies so: the book goes with the table handed back
 abbrev pub Followed : ProcessTable → History → Call → Reply → Type 0
@@ -48,7 +47,7 @@ pub joins-none : (b : History) (r : Rendezvous) → [] ≡ Joined r ∷ [] → J
 joins-none b r e = let z : ◌≡◌ {A = ℕ} 0 1 = cc in absurd (omega arith)
 
 -- a call at which nothing is entered
-enters-nothing : {b : History} {R : History → Type 0} (c : Call) (says : Said) (makes : List Moment) → enter b c (seen says) ≡ some b → makes ≡ []
+enters-nothing : {b : History} {R : History → Type 0} (c : Call) (says : Said) (makes : List Moment) → enter b c (seen says) ≡ Some b → makes ≡ []
     → TicketIsNext b c says b → OutcomeWasDue b c says b → R b → Follows b c says makes R
 enters-nothing {b} c says makes e z i o k = record { after = b; entered = e; run = rw (z, append-nil b.run); joins = λ r f. joins-none b r (sym z ∙ f); ticket = i; outcome = o; goes_on = k }
 
@@ -78,7 +77,7 @@ too-late t b p k = enters-nothing _ _ _ refl (kept-made (has_open_offer t p) _) 
 
 -- p moves from place pl to the new record x, with its list: no commit is entered, the book goes with the record, p was not at C, and x is bound only if the old record was
 pub record Moving (t : ProcessTable) (b : History) (p : ℕ) (pl : Place) (x : Process) : Type 0 where
-  pub book-stays : stepping b p (eqb (letter_of x.place) (code "C")) (index_of x.place) ≡ some b
+  pub book-stays : stepping b p (eqb (letter_of x.place) (code "C")) (index_of x.place) ≡ Some b
   pub no-commit : commit_at t p x.place ≡ []
   pub list : own_list x ≡ own_list (process t p)
   pub agrees : Agrees (lists_of (process t)) b p x
@@ -86,12 +85,12 @@ pub record Moving (t : ProcessTable) (b : History) (p : ℕ) (pl : Place) (x : P
   pub bound : Bound x → Bound (process t p)
 
 module _ {t : ProcessTable} (good : Good t) {b : History} (k : InStep t b) (p : ℕ) (below : p < t.head.n) where
-  pub stays : Followed t b (Step p) (record { answer = Answer.Unchanged; table = t })
+  pub stays : Followed t b (Step p) (record { answer = Ok Answer.Unchanged; table = t })
   unfolding enter
   stays = enters-nothing _ _ _ refl (stays-made t p (process t p).place) tt tt k
 
   -- one record is new
-  pub moves : (pl : Place) → (process t p).place ≡ pl → (x : Process) → Moving t b p pl x → Followed t b (Step p) (record { answer = Answer.Moved x.place; table = put t p x })
+  pub moves : (pl : Place) → (process t p).place ≡ pl → (x : Process) → Moving t b p pl x → Followed t b (Step p) (record { answer = Ok (Answer.Moved x.place); table = put t p x })
   unfolding enter
   moves pl e x m = enters-nothing _ _ _ m.book-stays (none_made (is_at "T" (process t p).place) (commit_at t p (process (put t p x) p).place) (rw (put-there good p x below) m.no-commit)) tt tt (subst⁻¹ (λ (v : View). InStepOf t.head.next.0 v b) (put_one good p x below) (record {
     counts = k.counts;
@@ -106,15 +105,15 @@ module _ {t : ProcessTable} (good : Good t) {b : History} (k : InStep t b) (p : 
   unfolding scan_from
   scans pl e opened unowed c q i = go (next_enabled (own_list (process t p)) i)
     where
-      o : some (offer_by (process t p)) ≡ b.opened p
+      o : Some (offer_by (process t p)) ≡ b.opened p
       o = rw opened at (offer-at (k.each p) e)
 
       w : is_due (b.due p) ≡ false
       w = owed-at (k.each p) e ∙ unowed
 
-      go : (f : Found) → Followed t b (Step p) (applied t p q (Own (at_place (process t p) (scan_at f))))
-      go (Found.At i) = moves pl e _ (search (o, w, c, (k.each p).told, hidden))
-      go Found.Missing = moves pl e _ (search (o, w, c, (k.each p).told, hidden))
+      go : (f : Option ℕ) → Followed t b (Step p) (applied t p q (Own (at_place (process t p) (scan_at f))))
+      go (Some i) = moves pl e _ (search (o, w, c, (k.each p).told, hidden))
+      go None = moves pl e _ (search (o, w, c, (k.each p).told, hidden))
 
   pub scan-followed : (i : ℕ) → (process t p).place ≡ Place.Scanning i → (w : State) (older : Bool)
       → Followed t b (Step p) (applied t p (own_guard (process t p) i).partner (scan (process t p) i w older))
@@ -124,11 +123,11 @@ module _ {t : ProcessTable} (good : Good t) {b : History} (k : InStep t b) (p : 
   scan-followed i e State.Alt true = moves _ e _ (search (offer-at (k.each p) e, owed-at (k.each p) e, (k.each p).told, hidden))
   scan-followed i e State.Alt false = stays
 
-  pub absorbs : (process t p).place ≡ Place.Waiting → (s : Signal) → (process t p).signal ≡ s → Followed t b (Step p) (applied t p 0 (absorb (process t p) s))
-  absorbs e Signal.Absent f = stays
-  absorbs e (Signal.Present j m) f =
+  pub absorbs : (process t p).place ≡ Place.Waiting → (s : Option (ℕ × Message)) → (process t p).signal ≡ s → Followed t b (Step p) (applied t p 0 (absorb (process t p) s))
+  absorbs e None f = stays
+  absorbs e (Some (j, m)) f =
       let woken = told-woken _ _ j m (fine (process t) good.inv p _ e).deaf f in
-      let due = subst (λ (s : Signal). DueBy (own_list (process t p)) s (b.due p)) f (k.each p).told in
+      let due = subst (λ (s : Option (ℕ × Message)). DueBy (own_list (process t p)) s (b.due p)) f (k.each p).told in
       moves _ e _ (search (rw woken at (offer-at (k.each p) e), rw woken at (owed-at (k.each p) e), due, hidden))
 
   -- rule 9: what was pledged is handed over

@@ -1,4 +1,5 @@
 -- Every rule and a withdrawal keep the posted lists, the signals, the steps at S and the outcomes as refusal 7 asks.
+use Rattle.std.specs.Prelude.{Option, Some, None}
 use Prim.Native.Nat.{ℕ, suc, ◌+◌, ◌≤◌}
 use mathlib.Core.Path.{◌≡◌, refl, subst}
 use mathlib.Core.List.{List}
@@ -8,9 +9,7 @@ use lib.ListN.{take, length, length-take, get_or-eq_default}
 use lib.Dec.{ltb}
 use borrow.Author.Tests.{lt-ltb}
 use Rattle.alternative.specs.declared.Guard.{Guard}
-use Rattle.alternative.specs.declared.Found.{Found}
 use Rattle.alternative.specs.Guards.{blank, kept_match, next_enabled}
-use Rattle.process.specs.declared.Signal.{Signal}
 use Rattle.process.specs.declared.Place.{Place}
 use Rattle.process.specs.declared.State.{State}
 use Rattle.process.specs.declared.Process.{Process}
@@ -22,6 +21,7 @@ use Rattle.history.proofs.View.{split, View, upd, effected, entered-each}
 use Rattle.history.proofs.Invariant.{On, Inv, PlaceFormed, Formed, AllFormed}
 use Rattle.history.proofs.Matches.{match}
 use Rattle.history.proofs.Facts.{at_on, commit-binds}
+use Rattle.alternative.specs.declared.Message.{Message}
 
 pub placed : {n d p : ℕ} {x : Process} → Formed n d p x → (pl : Place) → PlaceFormed d x.count pl → Formed n d p (at_place x pl)
 placed f pl o = record { posted = f.posted; signal = f.signal; place = o }
@@ -44,9 +44,9 @@ module _ {head : Head} (v : View) (inv : Inv head v) (formed : AllFormed head.n 
   unfolding scan_from
   scanned q s = with-own _ (placed (formed p) _ (nowhere (next_enabled (own_list (v p)) s)))
     where
-      nowhere : (f : Found) → PlaceFormed head.nap (v p).count (scan_at f)
-      nowhere (Found.At i) = tt
-      nowhere Found.Missing = tt
+      nowhere : (f : Option ℕ) → PlaceFormed head.nap (v p).count (scan_at f)
+      nowhere (Some i) = tt
+      nowhere None = tt
 
   -- an early step of a nap is counted, and is not its last
   formed-sleep : (s q : ℕ) (early : Bool) → ltb (s + 1) head.nap ≡ early → AllFormed head.n head.nap (effected v p q (sleep_at (v p) s early))
@@ -60,13 +60,13 @@ module _ {head : Head} (v : View) (inv : Inv head v) (formed : AllFormed head.n 
   formed-scan naps i q State.Alt true = with-own _ (placed (formed p) (Place.Asleep 0) (lt-ltb 0 head.nap naps))
   formed-scan naps i q State.Alt false = formed
 
-  formed-try : (i q : ℕ) (accepting : Bool) (found : Found) → AllFormed head.n head.nap (effected v p q (try (v p) i (v q) accepting found))
-  formed-try i q true (Found.At j) =
+  formed-try : (i q : ℕ) (accepting : Bool) (found : Option ℕ) → AllFormed head.n head.nap (effected v p q (try (v p) i (v q) accepting found))
+  formed-try i q true (Some j) =
       let f = formed q in
       with-both q _ _ (placed (formed p) (Place.Committed i j) tt) (record { posted = f.posted; signal = f.signal; place = f.place })
-  formed-try i q true Found.Missing = scanned q (suc i)
-  formed-try i q false (Found.At j) = scanned q (suc i)
-  formed-try i q false Found.Missing = scanned q (suc i)
+  formed-try i q true None = scanned q (suc i)
+  formed-try i q false (Some j) = scanned q (suc i)
+  formed-try i q false None = scanned q (suc i)
 
   -- rule 9: both guards are in their lists
   formed-hand : (i j : ℕ) → (v p).place ≡ Place.Committed i j → let q = (own_guard (v p) i).partner in AllFormed head.n head.nap (effected v p q (hand_over (v p) i j (v q)))
@@ -78,9 +78,9 @@ module _ {head : Head} (v : View) (inv : Inv head v) (formed : AllFormed head.n 
       let kept = on_below (v q).guards (v q).count j (match (commit-binds v inv p i j e).1).there in
       with-both q _ _ (placed (formed p) (Place.Met i _) own) (record { posted = f.posted; signal = kept; place = f.place })
 
-  formed-absorb : (q : ℕ) (signal : Signal) → (v p).signal ≡ signal → AllFormed head.n head.nap (effected v p q (absorb (v p) signal))
-  formed-absorb q Signal.Absent e = formed
-  formed-absorb q (Signal.Present j m) e = with-own _ (record { posted = (formed p).posted; signal = refl; place = subst (λ (s : Signal). signal_fits (v p).count s ≡ true) e (formed p).signal })
+  formed-absorb : (q : ℕ) (signal : Option (ℕ × Message)) → (v p).signal ≡ signal → AllFormed head.n head.nap (effected v p q (absorb (v p) signal))
+  formed-absorb q None e = formed
+  formed-absorb q (Some (j, m)) e = with-own _ (record { posted = (formed p).posted; signal = refl; place = subst (λ (s : Option (ℕ × Message)). signal_fits (v p).count s ≡ true) e (formed p).signal })
 
   formed-at : 1 ≤ head.nap → (pl : Place) → (v p).place ≡ pl → let q = named_by (v p) (index_of pl) in AllFormed head.n head.nap (effected v p q (rule_at head.nap p (v p) q (v q) pl))
   formed-at naps Place.Idle e = formed

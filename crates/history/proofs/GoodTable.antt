@@ -1,9 +1,9 @@
 -- A fresh table is good, every call leaves a good table, and what each call does to the records of one.
+use Rattle.std.specs.Prelude.{Option, Some, None}
 use Prim.Native.Nat.{ℕ, zero, suc, ◌+◌, ◌≤◌, ◌<◌}
 use mathlib.Core.Path.{◌≡◌, refl, ◌∙◌, ap, subst⁻¹}
 use mathlib.Core.List.{List, ◌++◌}
 use mathlib.Core.Bool.{Bool, true, false, cond, true≢false}
-use mathlib.Core.Option.{Option, some, none}
 use native.Mathlib.Omega.{arith}
 use lib.ListN.{take, set, length, replicate, length-set, get_or-replicate, get_or-eq_default}
 use lib.Seq.{take-take, take-append_seam}
@@ -42,8 +42,8 @@ module _ {t : ProcessTable} (good : Good t) (p : ℕ) where
   partner-below = at (index_of (process t p).place) refl
     where
       at : (index : Option ℕ) → index_of (process t p).place ≡ index → named_by (process t p) index < t.head.n
-      at (some i) e = (at_names (process t) good.inv p i e).below
-      at none e = omega (arith, good.least)
+      at (Some i) e = (at_names (process t) good.inv p i e).below
+      at None e = omega (arith, good.least)
 
   module _ (x : Process) (below : p < t.head.n) where
     pub put_one : process (put t p x) ≡ upd (process t) p x

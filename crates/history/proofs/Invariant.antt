@@ -1,14 +1,13 @@
 -- What holds of each process, and of each two, on every table that is reached.
+use Rattle.std.specs.Prelude.{Option, Some, None}
 use Prim.Native.Nat.{ℕ, ◌+◌, ◌*◌, ◌≤◌, ◌<◌}
 use mathlib.Core.Path.{◌≡◌}
 use mathlib.Core.List.{List}
 use mathlib.Core.Bool.{Bool, true, false}
-use mathlib.Core.Option.{Option, some, none}
 use lib.ListN.{get_or, length}
 use lib.Dec.{ltb}
 use Rattle.alternative.specs.declared.Guard.{Guard}
 use Rattle.alternative.specs.Guards.{blank, guards_match}
-use Rattle.process.specs.declared.Signal.{Signal}
 use Rattle.process.specs.declared.Place.{Place}
 use Rattle.process.specs.declared.State.{State}
 use Rattle.process.specs.declared.Process.{Process}
@@ -18,6 +17,7 @@ use Rattle.process.specs.Process.{state_of, index_of, carried, if_committed, own
 use Rattle.rendezvous.specs.Table.{most_processes, process, count_below}
 use Rattle.process.specs.Fits.{list_fits, signal_fits}
 use Rattle.history.proofs.View.{View}
+use Rattle.alternative.specs.declared.Message.{Message}
 
 -- the offer is open and its scan is past guard k
 abbrev pub Past : Place → Bool → ℕ → Type 0
@@ -90,20 +90,20 @@ On gs i = (get_or gs i blank).enabled ≡ true
 
 -- the guard that a place carries, if it carries one, is enabled
 abbrev pub OnAt : List Guard → Option ℕ → Type 0
-OnAt gs (some i) = On gs i
-OnAt gs none = Unit {0}
+OnAt gs (Some i) = On gs i
+OnAt gs None = Unit {0}
 
 -- wake count 1 and no signal
-abbrev pub Calm : Bool → Signal → Type 0
-Calm accepting signal = (accepting ≡ false) × (signal ≡ Signal.Absent)
+abbrev pub Calm : Bool → Option (ℕ × Message) → Type 0
+Calm accepting signal = (accepting ≡ false) × (signal ≡ None)
 
 -- at H or W the own list gs is posted as hs, and a signal comes after the wake count is 1
-pub record Shown (gs hs : List Guard) (accepting : Bool) (signal : Signal) : Type 0 where
+pub record Shown (gs hs : List Guard) (accepting : Bool) (signal : Option (ℕ × Message)) : Type 0 where
   pub posted : hs ≡ gs
-  pub deaf : accepting ≡ true → signal ≡ Signal.Absent
+  pub deaf : accepting ≡ true → signal ≡ None
 
 -- what a place says of the own list gs, the posted list hs, the wake count and the signal
-abbrev pub Fine : Place → List Guard → List Guard → Bool → Signal → Type 0
+abbrev pub Fine : Place → List Guard → List Guard → Bool → Option (ℕ × Message) → Type 0
 Fine Place.Idle gs hs accepting signal = Calm accepting signal
 Fine Place.Entering gs hs accepting signal = Calm accepting signal
 Fine (Place.Scanning i) gs hs accepting signal = Calm accepting signal
@@ -129,7 +129,7 @@ pub record Alone (h : Head) (p : ℕ) (x : Process) : Type 0 where
 pub record Bound (y : Process) : Type 0 where
   pub shows : Shows y.place
   pub woken : y.accepting ≡ false
-  pub deaf : y.signal ≡ Signal.Absent
+  pub deaf : y.signal ≡ None
 
 -- of two processes p and q with records x and y
 pub record Paired (p q : ℕ) (x y : Process) : Type 0 where

@@ -1,4 +1,5 @@
 -- Every rule, an accepted offer, a collection and a withdrawal keep what holds of each process and of each two.
+use Rattle.std.specs.Prelude.{Option, Some, None}
 use Prim.Native.Nat.{ℕ, suc, ◌+◌, ◌<◌}
 use mathlib.Core.Path.{◌≡◌, refl, sym, ◌∙◌, subst}
 use mathlib.Core.List.{List}
@@ -10,9 +11,7 @@ use lib.Dec.{ltb}
 use Rattle.alternative.specs.declared.Message.{Message}
 use Rattle.alternative.specs.declared.Guard.{Guard}
 use Rattle.alternative.specs.declared.GuardList.{GuardList}
-use Rattle.alternative.specs.declared.Found.{Found}
 use Rattle.alternative.specs.Guards.{guards_match, next_enabled, slots}
-use Rattle.process.specs.declared.Signal.{Signal}
 use Rattle.process.specs.declared.Place.{Place}
 use Rattle.process.specs.declared.State.{State}
 use Rattle.process.specs.declared.Process.{Process}
@@ -34,7 +33,7 @@ record Ahead (gs : List Guard) (s : ℕ) (pl : Place) : Type 0 where
   past : (accepting : Bool) (k : ℕ) → On gs k → Past pl accepting k → k < s
   tries : (k : ℕ) → Tries pl k → ⊥
   commits : (i j : ℕ) → Commits pl i j → ⊥
-  calm : (hs : List Guard) (accepting : Bool) (signal : Signal) → Calm accepting signal → Fine pl gs hs accepting signal
+  calm : (hs : List Guard) (accepting : Bool) (signal : Option (ℕ × Message)) → Calm accepting signal → Fine pl gs hs accepting signal
   on : OnAt gs (index_of pl)
 
 ahead : (gs : List Guard) (s : ℕ) → Ahead gs s (scan_at (next_enabled gs s))
@@ -112,7 +111,7 @@ module _ {head : Head} (v : View) (inv : Inv head v) (p : ℕ) where
       moves v inv p _ refl _ _ _ (shows-elim (λ at. Fine at (own_list (v p)) (posted_list (v p)) false (v p).signal) h h (v p).place s) (inv.alone p).on (search (inl, closed, unheld))
 
   -- the partner's part of rule 9, where no other process has committed to it
-  told : (signal : Signal) → Bound (v p) → (Held v p → ⊥) → Inv head (upd v p (with_signal (v p) signal))
+  told : (signal : Option (ℕ × Message)) → Bound (v p) → (Held v p → ⊥) → Inv head (upd v p (with_signal (v p) signal))
   told signal b alone =
       let unheld : (x : Process) → Held v p → Bound x = λ x h. absurd (alone h) in
       let h : Shown (own_list (v p)) (posted_list (v p)) (v p).accepting signal = record { posted = (shown v inv p b.shows).posted; deaf = λ a. absurd (false≢true (sym b.woken ∙ a)) } in
@@ -192,7 +191,7 @@ module _ {head : Head} (v : View) (inv : Inv head v) (p i j : ℕ) where
           (λ r ne k l c m. false≢true (sym ((inv.paired r q ne).bound k l c (sym m)).0.woken ∙ z))
 
   -- the mover first, then the partner: no other process has committed to it
-  rule-9 : let q = (own_guard (v p) i).partner in (k : ℕ) (m : Message) (signal : Signal) → (v p).place ≡ Place.Committed i j → Inv head (upd (upd v q (with_signal (v q) signal)) p (at_place (v p) (Place.Met k m)))
+  rule-9 : let q = (own_guard (v p) i).partner in (k : ℕ) (m : Message) (signal : Option (ℕ × Message)) → (v p).place ≡ Place.Committed i j → Inv head (upd (upd v q (with_signal (v q) signal)) p (at_place (v p) (Place.Met k m)))
   rule-9 k m signal e = rw (upd-comm v p q (at_place (v p) (Place.Met k m)) (with_signal (v q) signal) ne)
       (subst (λ (y : Process). Bound y → Inv head (upd u q (with_signal y signal))) uq (λ b. told u met q signal b alone) (commit-binds v inv p i j e).0)
     where
@@ -231,15 +230,15 @@ module _ {head : Head} (v : View) (inv : Inv head v) (p : ℕ) where
   inv-scan i e State.Alt f false = inv
 
   inv-try : (i : ℕ) → (v p).place ≡ Place.Trying i → let q = (own_guard (v p) i).partner in
-      (accepting : Bool) → (v q).accepting ≡ accepting → (found : Found) → Searched p (own_guard (v p) i) q (posted_list (v q)) found → Inv head (effected v p q (try (v p) i (v q) accepting found))
-  inv-try i e true f (Found.At j) s = rule-7 v inv p i j e f s
-  inv-try i e true f Found.Missing s = rule-8 v inv p i e (λ l z g. s l (rw (shown v inv _ (accepts v inv _ z)).posted g))
-  inv-try i e false f (Found.At j) s = rule-8 v inv p i e (λ l z g. false≢true (sym f ∙ z))
-  inv-try i e false f Found.Missing s = rule-8 v inv p i e (λ l z g. false≢true (sym f ∙ z))
+      (accepting : Bool) → (v q).accepting ≡ accepting → (found : Option ℕ) → Searched p (own_guard (v p) i) q (posted_list (v q)) found → Inv head (effected v p q (try (v p) i (v q) accepting found))
+  inv-try i e true f (Some j) s = rule-7 v inv p i j e f s
+  inv-try i e true f None s = rule-8 v inv p i e (λ l z g. s l (rw (shown v inv _ (accepts v inv _ z)).posted g))
+  inv-try i e false f (Some j) s = rule-8 v inv p i e (λ l z g. false≢true (sym f ∙ z))
+  inv-try i e false f None s = rule-8 v inv p i e (λ l z g. false≢true (sym f ∙ z))
 
-  inv-absorb : (v p).place ≡ Place.Waiting → (signal : Signal) → (v p).signal ≡ signal → Inv head (effected v p 0 (absorb (v p) signal))
-  inv-absorb e Signal.Absent f = inv
-  inv-absorb e (Signal.Present j m) f =
+  inv-absorb : (v p).place ≡ Place.Waiting → (signal : Option (ℕ × Message)) → (v p).signal ≡ signal → Inv head (effected v p 0 (absorb (v p) signal))
+  inv-absorb e None f = inv
+  inv-absorb e (Some (j, m)) f =
       let b : (x : Process) → Held v p → Bound x = λ x h. absurd (absent-present _ j m (held v inv p h).deaf f) in
       moves v inv p _ e _ _ _ (told-woken _ _ j m (fine v inv p _ e).deaf f, refl) tt (search (absurd, b))
 

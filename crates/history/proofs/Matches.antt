@@ -1,17 +1,16 @@
 -- What a match of two guards says, what the two searches in a list of guards find, and what a list that fits says of its guards.
+use Rattle.std.specs.Prelude.{Option, Some, None, slice_get}
 use Prim.Native.Nat.{ℕ, zero, suc, ◌+◌, ◌-◌, ◌≤◌, ◌<◌}
 use mathlib.Core.Path.{◌≡◌, refl, sym, ap, subst}
 use mathlib.Core.List.{List, [], ◌∷◌}
 use mathlib.Core.Bool.{Bool, true, false, not, ◌&&◌, false≢true}
-use mathlib.Core.Option.{some}
 use native.Mathlib.Omega.{arith}
-use lib.ListN.{get_or, get_elem?, take, drop}
+use lib.ListN.{get_or, take, drop}
 use lib.Seq.{get_or-drop}
 use lib.Dec.{eqb, leb}
 use borrow.Author.Tests.{eqb-true, eqb-false, eq-eqb, ne_eqb, ltb-true, not-true}
 use Rattle.alternative.specs.declared.Action.{Action}
 use Rattle.alternative.specs.declared.Guard.{Guard}
-use Rattle.alternative.specs.declared.Found.{Found}
 use Rattle.alternative.specs.Guards.{most_guards, blank, opposite, plain_match, guards_match, any_guard, offers_match, kept_match, next_enabled}
 use Rattle.process.specs.Fits.{all_guards, partner_fits, list_fits}
 use Rattle.alternative.proofs.Kept.{kept-view}
@@ -63,17 +62,17 @@ unfolding guards_match
 match-comm p g q h = rw (eqb_comm g.kind h.kind) (ap (λ (b : Bool). b && eqb h.kind g.kind) (plain-comm p g q h))
 
 -- what rule 7's search says: the guard that it finds matches, and where it finds none, none does
-abbrev pub Searched : ℕ → Guard → ℕ → List Guard → Found → Type 0
-Searched p g q hs (Found.At j) = guards_match p g q (get_or hs j blank) ≡ true
-Searched p g q hs Found.Missing = (k : ℕ) → guards_match p g q (get_or hs k blank) ≡ true → ⊥
+abbrev pub Searched : ℕ → Guard → ℕ → List Guard → Option ℕ → Type 0
+Searched p g q hs (Some j) = guards_match p g q (get_or hs j blank) ≡ true
+Searched p g q hs None = (k : ℕ) → guards_match p g q (get_or hs k blank) ≡ true → ⊥
 
 pub searched : (p : ℕ) (g : Guard) (q : ℕ) (hs : List Guard) → Searched p g q hs (kept_match p g q hs)
 searched p g q hs = kept-view p g q hs (Searched p g q hs) (λ j b. b.passes) (λ n. n)
 
 -- the first enabled guard at or after index s
-pub next-view : (P : Found → Type 0) (gs : List Guard) (s : ℕ)
-    → ((i : ℕ) → On gs i → ((k : ℕ) → s ≤ k → k < i → On gs k → ⊥) → P (Found.At i))
-    → (((k : ℕ) → s ≤ k → On gs k → ⊥) → P Found.Missing)
+pub next-view : (P : Option ℕ → Type 0) (gs : List Guard) (s : ℕ)
+    → ((i : ℕ) → On gs i → ((k : ℕ) → s ≤ k → k < i → On gs k → ⊥) → P (Some i))
+    → (((k : ℕ) → s ≤ k → On gs k → ⊥) → P None)
     → P (next_enabled gs s)
 unfolding next_enabled
 next-view P gs s a b = first-view P (λ g. g.enabled) (drop s gs) s false≢true
@@ -93,7 +92,7 @@ no-match p gs q hs h = any_none (λ g. any_guard (guards_match p g q) hs) gs (λ
     neither false n = refl
 
 -- an enabled guard stands in its list
-pub on-there : (gs : List Guard) (i : ℕ) → On gs i → get_elem? gs i ≡ some (get_or gs i blank)
+pub on-there : (gs : List Guard) (i : ℕ) → On gs i → slice_get gs i ≡ Some (get_or gs i blank)
 on-there [] i e = absurd (false≢true e)
 on-there (g ∷ gs) zero e = refl
 on-there (g ∷ gs) (suc i) e = on-there gs i e

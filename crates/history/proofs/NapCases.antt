@@ -1,4 +1,5 @@
 -- The cases of naps hold, by computation over the definitions; and an order that settles nothing, for naps of any length.
+use Rattle.std.specs.Prelude.{Ok, None}
 use Prim.Native.Nat.{ℕ, zero, suc, ◌+◌, ◌≤◌, ◌<◌}
 use mathlib.Core.Path.{◌≡◌, refl, ap, ◌∙◌}
 use mathlib.Core.Bool.{Bool, true, false}
@@ -10,11 +11,11 @@ use lib.Ieee.{of_bits}
 use borrow.Author.Tests.{le-leb, lt-ltb, le-ltb}
 use Rattle.alternative.specs.Guards.{guards_match, any_guard, offers_match, first_from, outranked, kept_match, next_enabled, slots, lent}
 use Rattle.alternative.specs.declared.Guard.{Guard}
-use Rattle.process.specs.declared.{Signal.Signal, Place.Place, Process.Process}
+use Rattle.process.specs.declared.{Place.Place, Process.Process}
 use Rattle.process.specs.Process.{fresh_process}
 use Rattle.process.specs.Rules.{scan_from, hand_over, rule}
 use Rattle.process.specs.Fits.{all_guards, partner_fits, list_fits, process_fits}
-use Rattle.rendezvous.specs.declared.{ProcessTable.ProcessTable, Verdict.Verdict, Reply.Reply}
+use Rattle.rendezvous.specs.declared.{ProcessTable.ProcessTable, Reply.Reply}
 use Rattle.rendezvous.specs.Table.{process, fresh_table, count_below}
 use Rattle.rendezvous.specs.WellFormed.{all_below, count_fits, nap_fits, fits_at, totals_fit, well_formed}
 use Rattle.rendezvous.specs.Refusals.{require_guards, create_verdict, table_verdict, process_verdict, list_verdict, state_verdict, offer_tests, offer_verdict, withdraw_verdict}
@@ -81,13 +82,13 @@ abbrev stage : ℕ → ℕ → Process → Process → ProcessTable
 stage d next x y = with_nap d (table 2 next (x ∷ y ∷ []))
 
 abbrev first : Place → Process
-first at = by_hand 0 at Signal.Absent false (send 1 0x40970a3d ∷ []) []
+first at = by_hand 0 at None false (send 1 0x40970a3d ∷ []) []
 
 abbrev second : Place → Process
-second at = by_hand 1 at Signal.Absent false (receive 0 ∷ []) []
+second at = by_hand 1 at None false (receive 0 ∷ []) []
 
 -- an offer that nothing turns away
-admitted : (t : ProcessTable) (p : ℕ) (gs : List Guard) → well_formed t ≡ true → offer_tests true t.head p (lent gs) (process t p).place ≡ Verdict.Accepted → table_after t (Offer p gs) ≡ (offered t p (lent gs)).table
+admitted : (t : ProcessTable) (p : ℕ) (gs : List Guard) → well_formed t ≡ true → offer_tests true t.head p (lent gs) (process t p).place ≡ Ok tt → table_after t (Offer p gs) ≡ (offered t p (lent gs)).table
 unfolding offer_verdict offer_list reply_to
 admitted t p gs formed passes = ap (λ (r : Reply). r.table) (whole-offer (well_formed t) formed)
   where

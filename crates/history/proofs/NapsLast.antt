@@ -1,17 +1,15 @@
 -- A nap lasts d own steps: how many answers S a process has got in a row is told by its place, on every table that is reached.
+use Rattle.std.specs.Prelude.{Option, Some, None, Result, Ok, Err}
 use Prim.Native.Nat.{ℕ, ◌+◌, ◌<◌}
 use Prim.Native.Char.{code}
 use mathlib.Core.Path.{◌≡◌, refl, ap, ◌∙◌, subst, subst⁻¹}
 use mathlib.Core.Bool.{Bool, true, false, cond}
 use mathlib.Core.List.{List, [], ◌∷◌}
-use mathlib.Core.Option.{Option, some, none}
 use native.Mathlib.Omega.{arith}
 use lib.Dec.{eqb, ltb}
 use borrow.Author.Tests.{eqb-true, ltb-true, lt-ltb, le-ltb}
 use Rattle.alternative.specs.declared.Guard.{Guard}
-use Rattle.alternative.specs.declared.Found.{Found}
 use Rattle.alternative.specs.Guards.{kept_match, next_enabled, lent}
-use Rattle.process.specs.declared.Signal.{Signal}
 use Rattle.process.specs.declared.Place.{Place}
 use Rattle.process.specs.declared.State.{State}
 use Rattle.process.specs.declared.Process.{Process}
@@ -35,6 +33,8 @@ use Rattle.history.proofs.Invariant.{PlaceFormed, Good}
 use Rattle.history.proofs.GoodTable.{partner-below, put_one, put_two, good-after, fresh-each, good-fresh}
 use Rattle.history.proofs.Fitting.{well-formed}
 use Rattle.history.proofs.Replies.{offer-elim, step-elim, collect-elim, withdraw-elim}
+use Rattle.alternative.specs.declared.Message.{Message}
+use Rattle.rendezvous.specs.declared.Refusal.{Refusal}
 
 -- s answers S in a row go with a place: none elsewhere than at S, and there one more than the steps made
 abbrev Counts : ℕ → Place → Type 0
@@ -54,9 +54,9 @@ module _ (s : ℕ) (x : Process) where
   unfolding scan_from
   from-counts k = go (next_enabled (own_list x) k)
     where
-      go : (f : Found) → Goes s (scan_at f)
-      go (Found.At i) = refl
-      go Found.Missing = refl
+      go : (f : Option ℕ) → Goes s (scan_at f)
+      go (Some i) = refl
+      go None = refl
 
   sleep-counts : (k : ℕ) (early : Bool) → s ≡ k + 1 → StepCounts s (sleep_at x k early)
   sleep-counts k true e = omega arith
@@ -69,15 +69,15 @@ module _ (s : ℕ) (x : Process) where
   scan-counts i State.Alt true e = omega arith
   scan-counts i State.Alt false e = tt
 
-  try-counts : (i : ℕ) (y : Process) (accepting : Bool) (found : Found) → StepCounts s (try x i y accepting found)
-  try-counts i y true (Found.At j) = refl
-  try-counts i y true Found.Missing = from-counts _
-  try-counts i y false (Found.At j) = from-counts _
-  try-counts i y false Found.Missing = from-counts _
+  try-counts : (i : ℕ) (y : Process) (accepting : Bool) (found : Option ℕ) → StepCounts s (try x i y accepting found)
+  try-counts i y true (Some j) = refl
+  try-counts i y true None = from-counts _
+  try-counts i y false (Some j) = from-counts _
+  try-counts i y false None = from-counts _
 
-  absorb-counts : (signal : Signal) → StepCounts s (absorb x signal)
-  absorb-counts (Signal.Present j m) = refl
-  absorb-counts Signal.Absent = tt
+  absorb-counts : (signal : Option (ℕ × Message)) → StepCounts s (absorb x signal)
+  absorb-counts (Some (j, m)) = refl
+  absorb-counts None = tt
 
   at-counts : (d p q : ℕ) (y : Process) (at : Place) → Counts s at → StepCounts s (rule_at d p x q y at)
   unfolding hand_over
@@ -124,21 +124,21 @@ abbrev RowAfter : ℕ → ℕ → ℕ → Reply → Type 0
 RowAfter p s q reply = Counts (cond (eqb p q) (slept_on s (said reply.answer)) s) (process reply.table p).place
 
 module _ {t : ProcessTable} (good : Good t) (p s : ℕ) (row : Counts s (process t p).place) (q : ℕ) where
-  same_row : (answer : Answer) → slept_on s (said answer) ≡ s → RowAfter p s q (record { answer = answer; table = t })
+  same_row : (answer : Result Answer Refusal) → slept_on s (said answer) ≡ s → RowAfter p s q (record { answer = answer; table = t })
   same_row answer e = counts_same p s q (process t p).place (said answer) e row
 
-  put-row : (x : Process) (answer : Answer) → q < t.head.n → (p ≡ q → Counts (slept_on s (said answer)) x.place) → RowAfter p s q (record { answer = answer; table = put t q x })
+  put-row : (x : Process) (answer : Result Answer Refusal) → q < t.head.n → (p ≡ q → Counts (slept_on s (said answer)) x.place) → RowAfter p s q (record { answer = answer; table = put t q x })
   put-row x answer h own = subst⁻¹ (λ (v : View). Counts (cond (eqb p q) (slept_on s (said answer)) s) (v p).place) (put_one good q x h) (counts-upd p s q (process t) x (said answer) own row)
 
   offered-row : (gs : List Guard) → Admitted t q (lent gs) → RowAfter p s q (offered t q (lent gs))
   unfolding offered entering
-  offered-row gs a = put-row (entering (process t q) t.head.next (lent gs)) (Answer.Offered t.head.next) a.below (λ _. refl)
+  offered-row gs a = put-row (entering (process t q) t.head.next (lent gs)) (Ok (Answer.Offered t.head.next)) a.below (λ _. refl)
 
   applied-row : q < t.head.n → (r : ℕ) → r < t.head.n → (effect : Effect) → OnlyTold (process t r) effect → (p ≡ q → StepCounts s effect) → RowAfter p s q (applied t q r effect)
-  applied-row h r l Neither told own = same_row Answer.Unchanged refl
-  applied-row h r l (Own x) told own = put-row x (Answer.Moved x.place) h own
+  applied-row h r l Neither told own = same_row (Ok Answer.Unchanged) refl
+  applied-row h r l (Own x) told own = put-row x (Ok (Answer.Moved x.place)) h own
   applied-row h r l (Both x y) told own =
-      let says = said (Answer.Moved x.place) in
+      let says = said (Ok (Answer.Moved x.place)) in
       subst⁻¹ (λ (v : View). Counts (cond (eqb p q) (slept_on s says) s) (v p).place) (put_two good q x h r y l)
       (counts-upd p s q (upd (process t) r y) x says own (counts-told p s q (process t) r y (ap (λ (z : Process). z.place) told) row))
 
@@ -152,10 +152,10 @@ module _ {t : ProcessTable} (good : Good t) (p s : ℕ) (row : Counts s (process
 
 row-after : (t : ProcessTable) → Good t → (p s : ℕ) → Counts s (process t p).place → (c : Call) → RowAfter p s (caller_of c) (reply_to t c)
 unfolding reply_to
-row-after t good p s row (Offer q gs) = offer-elim (RowAfter p s q) t (λ r. same_row good p s row q (Answer.Refused r) refl) q gs (offered-row good p s row q gs)
-row-after t good p s row (Step q) = step-elim (RowAfter p s q) t (λ r. same_row good p s row q (Answer.Refused r) refl) q (stepped-row good p s row q)
-row-after t good p s row (Collect q) = collect-elim (RowAfter p s q) t (λ r. same_row good p s row q (Answer.Refused r) refl) q (λ h i m e. put-row good p s row q _ (Answer.Collected i (own_guard (process t q) i).partner m) h (λ _. refl))
-row-after t good p s row (Withdraw q) = withdraw-elim (RowAfter p s q) t (λ r. same_row good p s row q (Answer.Refused r) refl) q (same_row good p s row q Answer.TooLate refl) (λ h o. put-row good p s row q _ Answer.Withdrawn h (λ _. refl))
+row-after t good p s row (Offer q gs) = offer-elim (RowAfter p s q) t (λ r. same_row good p s row q (Err r) refl) q gs (offered-row good p s row q gs)
+row-after t good p s row (Step q) = step-elim (RowAfter p s q) t (λ r. same_row good p s row q (Err r) refl) q (stepped-row good p s row q)
+row-after t good p s row (Collect q) = collect-elim (RowAfter p s q) t (λ r. same_row good p s row q (Err r) refl) q (λ h i m e. put-row good p s row q _ (Ok (Answer.Collected i (own_guard (process t q) i).partner m)) h (λ _. refl))
+row-after t good p s row (Withdraw q) = withdraw-elim (RowAfter p s q) t (λ r. same_row good p s row q (Err r) refl) q (same_row good p s row q (Ok Answer.TooLate) refl) (λ h o. put-row good p s row q _ (Ok Answer.Withdrawn) h (λ _. refl))
 
 -- no call changes the length of a nap
 unfoldable SameNap : ProcessTable → Reply → Type 0
@@ -198,9 +198,9 @@ module _ (t : ProcessTable) (good : Good t) (p s : ℕ) where
     unfolding scan_from
     leaves = go (next_enabled (own_list (process t p)) 0)
       where
-        go : (f : Found) → (letter : ℕ) × (index : Option ℕ) × (place (letter_of (scan_at f)) (index_of (scan_at f)) ≡ place letter index) × (letter ≡ code "S" → ⊥)
-        go (Found.At i) = (code "A", some i, refl, λ z. omega arith)
-        go Found.Missing = (code "P", none, refl, λ z. omega arith)
+        go : (f : Option ℕ) → (letter : ℕ) × (index : Option ℕ) × (place (letter_of (scan_at f)) (index_of (scan_at f)) ≡ place letter index) × (letter ≡ code "S" → ⊥)
+        go (Some i) = (code "A", Some i, refl, λ z. omega arith)
+        go None = (code "P", None, refl, λ z. omega arith)
 
     asleep : s ≡ k + 1 → NapLasts t.head.nap p t s
     asleep f =

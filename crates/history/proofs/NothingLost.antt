@@ -1,11 +1,11 @@
 -- Nothing committed is lost.
+use Rattle.std.specs.Prelude.{Option, Some, None}
 use Prim.Native.Nat.{ℕ}
 use mathlib.Core.Path.{◌≡◌, refl, sym, ◌∙◌, ap, subst, subst⁻¹}
 use mathlib.Core.Bool.{true, false, not, false≢true, true≢false, not-not}
-use mathlib.Core.Option.{some-injective}
+use Rattle.std.proofs.lemmas.Option.{same_Some}
 use borrow.Author.Tests.{lt-ltb}
 use Rattle.alternative.specs.declared.Message.{Message}
-use Rattle.process.specs.declared.Signal.{Signal}
 use Rattle.process.specs.declared.Place.{Place}
 use Rattle.rendezvous.specs.declared.ProcessTable.{ProcessTable}
 use Rattle.process.specs.Process.{own_guard}
@@ -33,12 +33,12 @@ module _ (t : ProcessTable) (good : Good t) (awaited : Awaited (process t)) (non
   none-commits p i j e = true≢false (still t good none_moves p ((good.inv.alone p).there (rw e refl)) _ e)
 
   -- at W with wake count 1: with a signal it would move, and without one the process that has committed to it would
-  none-waits : (p : ℕ) → (process t p).place ≡ Place.Waiting → (process t p).accepting ≡ false → (s : Signal) → (process t p).signal ≡ s → ⊥
-  none-waits p e woken Signal.Absent f =
+  none-waits : (p : ℕ) → (process t p).place ≡ Place.Waiting → (process t p).accepting ≡ false → (s : Option (ℕ × Message)) → (process t p).signal ≡ s → ⊥
+  none-waits p e woken None f =
       let h = awaited p (record { shows = rw e tt; woken = woken; deaf = f }) in
       commits-elim (λ pl. (process t h.by).place ≡ pl → ⊥) (none-commits h.by) _ h.at h.kept h.there refl
-  none-waits p e woken (Signal.Present j m) f =
-      true≢false (subst (λ (s : Signal). changes (absorb (process t p) s) ≡ false) f (still t good none_moves p ((good.inv.alone p).there (rw e refl)) _ e))
+  none-waits p e woken (Some (j, m)) f =
+      true≢false (subst (λ (s : Option (ℕ × Message)). changes (absorb (process t p) s) ≡ false) f (still t good none_moves p ((good.inv.alone p).there (rw e refl)) _ e))
 
   owed-met : (p : ℕ) (pl : Place) → (process t p).place ≡ pl → is_owed pl (process t p).accepting ≡ true → (i : ℕ) × (m : Message) × (pl ≡ Place.Met i m)
   owed-met p (Place.Met i m) e o = (i, m, refl)
@@ -66,7 +66,7 @@ module _ (t : ProcessTable) (good : Good t) where
     met = λ p i m e. due-at (k.each p) e;
     given = λ rest p d e.
         let a = owed-met t good k.awaited (rest-still t (well-formed t good) rest) p (process t p).place refl (sym (k.each p).owed ∙ ap is_due e) in
-        met-said p a.0 a.1 a.2 ∙ ap (λ (d : Due). outcome d.index d.partner d.message) (some-injective _ d (sym (due-at (k.each p) a.2) ∙ e));
+        met-said p a.0 a.1 a.2 ∙ ap (λ (d : Due). outcome d.index d.partner d.message) (same_Some _ d (sym (due-at (k.each p) a.2) ∙ e));
   }
 
 pub nothing-lost : NothingLost

@@ -1,9 +1,10 @@
 -- No offer ends twice: in every book, the tickets of its moments, the open ones and the next one all differ.
+use Rattle.std.specs.Prelude.{Option, Some, None}
 use Prim.Native.Nat.{ℕ, suc, ◌≤◌, ◌<◌}
 use mathlib.Core.Path.{◌≡◌, refl, sym, ◌∙◌, ap, subst}
 use mathlib.Core.List.{List, [], ◌∷◌, ◌++◌, append_assoc}
 use mathlib.Core.Logic.{◌⊎◌, inl, inr, ⊎_elim}
-use mathlib.Core.Option.{Option, some, none, some-injective, none-ne-some}
+use Rattle.std.proofs.lemmas.Option.{same_Some, none-some}
 use native.Mathlib.Omega.{arith}
 use Rattle.alternative.specs.declared.Guard.{Guard}
 use Rattle.history.specs.Book.{Transaction, Rendezvous, Withdrawal, Moment, Joined, Withdrew, entered_for}
@@ -37,16 +38,16 @@ ids_more (Withdrew w ∷ ms) ns = rw (ids_more ms ns)
 pub record Once (next : ℕ) (opened : ℕ → Option Transaction) (run : List Moment) : Type 0 where
   pub differ : AllDiffer (ids_of run)
   pub unused : (t : ℕ) → next ≤ t → NotIn t (ids_of run)
-  pub below : (p : ℕ) (o : Transaction) → opened p ≡ some o → o.id < next
-  pub unmet : (p : ℕ) (o : Transaction) → opened p ≡ some o → NotIn o.id (ids_of run)
-  pub apart : (p q : ℕ) (o r : Transaction) → (p ≡ q → ⊥) → opened p ≡ some o → opened q ≡ some r → o.id ≡ r.id → ⊥
+  pub below : (p : ℕ) (o : Transaction) → opened p ≡ Some o → o.id < next
+  pub unmet : (p : ℕ) (o : Transaction) → opened p ≡ Some o → NotIn o.id (ids_of run)
+  pub apart : (p q : ℕ) (o r : Transaction) → (p ≡ q → ⊥) → opened p ≡ Some o → opened q ≡ Some r → o.id ≡ r.id → ⊥
 
 -- what is open after p's offer closed was open, and is another's
-closed : (p : ℕ) (opened : ℕ → Option Transaction) (q : ℕ) (o : Transaction) → entered_for p none opened q ≡ some o → (opened q ≡ some o) × (q ≡ p → ⊥)
-closed p opened q o = entered-each (λ q x. x ≡ some o → (opened q ≡ some o) × (q ≡ p → ⊥)) opened p none (λ e. absurd (none-ne-some o e)) (λ q ne e. (e, ne)) q
+closed : (p : ℕ) (opened : ℕ → Option Transaction) (q : ℕ) (o : Transaction) → entered_for p None opened q ≡ Some o → (opened q ≡ Some o) × (q ≡ p → ⊥)
+closed p opened q o = entered-each (λ q x. x ≡ Some o → (opened q ≡ Some o) × (q ≡ p → ⊥)) opened p None (λ e. absurd (none-some o e)) (λ q ne e. (e, ne)) q
 
 module _ {next : ℕ} {opened : ℕ → Option Transaction} {run : List Moment} (k : Once next opened run) where
-  pub once-offers : (p : ℕ) (gs : List Guard) → Once (suc next) (entered_for p (some (record { id = next; guards = gs })) opened) run
+  pub once-offers : (p : ℕ) (gs : List Guard) → Once (suc next) (entered_for p (Some (record { id = next; guards = gs })) opened) run
   once-offers p gs = record {
     differ = k.differ;
     unused = λ t l. k.unused t (omega arith);
@@ -58,13 +59,13 @@ module _ {next : ℕ} {opened : ℕ → Option Transaction} {run : List Moment} 
         (newer q o e);
   }
     where
-      newer : (q : ℕ) (o : Transaction) → entered_for p (some (record { id = next; guards = gs })) opened q ≡ some o → ((q ≡ p) × (o.id ≡ next)) ⊎ (opened q ≡ some o)
-      newer q o = entered-each (λ q x. x ≡ some o → ((q ≡ p) × (o.id ≡ next)) ⊎ (opened q ≡ some o)) opened p _
-          (λ e. inl (refl, ap (λ (t : Transaction). t.id) (sym (some-injective _ o e)))) (λ q _ e. inr e) q
+      newer : (q : ℕ) (o : Transaction) → entered_for p (Some (record { id = next; guards = gs })) opened q ≡ Some o → ((q ≡ p) × (o.id ≡ next)) ⊎ (opened q ≡ Some o)
+      newer q o = entered-each (λ q x. x ≡ Some o → ((q ≡ p) × (o.id ≡ next)) ⊎ (opened q ≡ Some o)) opened p _
+          (λ e. inl (refl, ap (λ (t : Transaction). t.id) (sym (same_Some _ o e)))) (λ q _ e. inr e) q
 
   -- the offers o of p and s of q close, and their tickets have met in r
-  pub once-commits : (p q : ℕ) (o s : Transaction) (r : Rendezvous) → (p ≡ q → ⊥) → opened p ≡ some o → opened q ≡ some s → r.id_p ≡ o.id → r.id_q ≡ s.id
-      → Once next (entered_for p none (entered_for q none opened)) (run ++ (Joined r ∷ []))
+  pub once-commits : (p q : ℕ) (o s : Transaction) (r : Rendezvous) → (p ≡ q → ⊥) → opened p ≡ Some o → opened q ≡ Some s → r.id_p ≡ o.id → r.id_q ≡ s.id
+      → Once next (entered_for p None (entered_for q None opened)) (run ++ (Joined r ∷ []))
   once-commits p q o s r ne e f a b = record {
     differ = rw z (differ-more o.id s.id (ids_of run) (k.apart p q o s ne e f) k.differ (k.unmet p o e) (k.unmet q s f));
     unused = λ t l. rw z (not-in-more o.id s.id t (ids_of run) (k.unused t l) (λ h. omega (arith, k.below p o e)) (λ h. omega (arith, k.below q s f)));
@@ -77,11 +78,11 @@ module _ {next : ℕ} {opened : ℕ → Option Transaction} {run : List Moment} 
       z : ids_of (run ++ (Joined r ∷ [])) ≡ ids_of run ++ (o.id ∷ s.id ∷ [])
       z = ids_more run (Joined r ∷ []) ∙ rw (a, b)
 
-      still : (u : ℕ) (c : Transaction) → entered_for p none (entered_for q none opened) u ≡ some c → (opened u ≡ some c) × (u ≡ p → ⊥) × (u ≡ q → ⊥)
-      still u c g = let a = closed p (entered_for q none opened) u c g in let d = closed q opened u c a.0 in (d.0, a.1, d.1)
+      still : (u : ℕ) (c : Transaction) → entered_for p None (entered_for q None opened) u ≡ Some c → (opened u ≡ Some c) × (u ≡ p → ⊥) × (u ≡ q → ⊥)
+      still u c g = let a = closed p (entered_for q None opened) u c g in let d = closed q opened u c a.0 in (d.0, a.1, d.1)
 
   -- the offer o of p closes, and its ticket stands in w
-  pub once-withdraws : (p : ℕ) (o : Transaction) (w : Withdrawal) → opened p ≡ some o → w.id ≡ o.id → Once next (entered_for p none opened) (run ++ (Withdrew w ∷ []))
+  pub once-withdraws : (p : ℕ) (o : Transaction) (w : Withdrawal) → opened p ≡ Some o → w.id ≡ o.id → Once next (entered_for p None opened) (run ++ (Withdrew w ∷ []))
   once-withdraws p o w e a = record {
     differ = rw z (differ-one o.id (ids_of run) k.differ (k.unmet p o e));
     unused = λ t l. rw z (not-in-one o.id t (ids_of run) (k.unused t l) (λ h. omega (arith, k.below p o e)));

@@ -1,4 +1,5 @@
 -- Proof by the cases of a place: what the word of a process, its wake count and the invariant say of where it is.
+use Rattle.std.specs.Prelude.{Option, Some, None}
 use Prim.Native.Nat.{ℕ}
 use mathlib.Core.Path.{◌≡◌, refl, sym, ◌∙◌, subst⁻¹}
 use mathlib.Core.List.{List}
@@ -6,7 +7,6 @@ use mathlib.Core.Bool.{Bool, true, false, false≢true}
 use native.Mathlib.Omega.{arith}
 use Rattle.alternative.specs.declared.Message.{Message}
 use Rattle.alternative.specs.declared.Guard.{Guard}
-use Rattle.process.specs.declared.Signal.{Signal}
 use Rattle.process.specs.declared.Place.{Place}
 use Rattle.process.specs.Process.{is_idle, open_at}
 use Rattle.process.proofs.PlaceCases.{if-committed}
@@ -59,7 +59,7 @@ quiet-elim P a b c d Place.Waiting q = absurd q
 quiet-elim P a b c d (Place.Met i m) q = d i m
 
 -- wake count 0 is met at H and W alone
-pub accepting-shows : (pl : Place) (gs hs : List Guard) (accepting : Bool) (signal : Signal) → Fine pl gs hs accepting signal → accepting ≡ true → Shows pl
+pub accepting-shows : (pl : Place) (gs hs : List Guard) (accepting : Bool) (signal : Option (ℕ × Message)) → Fine pl gs hs accepting signal → accepting ≡ true → Shows pl
 accepting-shows Place.Idle gs hs a s f e = false≢true (sym f.0 ∙ e)
 accepting-shows Place.Entering gs hs a s f e = false≢true (sym f.0 ∙ e)
 accepting-shows (Place.Scanning i) gs hs a s f e = false≢true (sym f.0 ∙ e)
@@ -73,7 +73,7 @@ accepting-shows Place.Waiting gs hs a s f e = tt
 accepting-shows (Place.Met i m) gs hs a s f e = false≢true (sym f.0 ∙ e)
 
 -- an open offer has no signal
-pub open-silent : (pl : Place) (gs hs : List Guard) (accepting : Bool) (signal : Signal) → Fine pl gs hs accepting signal → open_at pl accepting ≡ true → signal ≡ Signal.Absent
+pub open-silent : (pl : Place) (gs hs : List Guard) (accepting : Bool) (signal : Option (ℕ × Message)) → Fine pl gs hs accepting signal → open_at pl accepting ≡ true → signal ≡ None
 open-silent Place.Idle gs hs a s f o = absurd (false≢true o)
 open-silent Place.Entering gs hs a s f o = f.1
 open-silent (Place.Scanning i) gs hs a s f o = f.1
@@ -101,10 +101,10 @@ idle-is Place.Waiting e = absurd (false≢true e)
 idle-is (Place.Met i m) e = absurd (false≢true e)
 
 -- a signal is absent or present
-pub absent-present : (s : Signal) (j : ℕ) (m : Message) → s ≡ Signal.Absent → s ≡ Signal.Present j m → ⊥
+pub absent-present : (s : Option (ℕ × Message)) (j : ℕ) (m : Message) → s ≡ None → s ≡ Some (j, m) → ⊥
 absent-present s j m a b = let z : ◌≡◌ {A = ℕ} 0 1 = cc in omega arith
 
 -- a signal comes to a process that no longer accepts
-pub told-woken : (accepting : Bool) (s : Signal) (j : ℕ) (m : Message) → (accepting ≡ true → s ≡ Signal.Absent) → s ≡ Signal.Present j m → accepting ≡ false
+pub told-woken : (accepting : Bool) (s : Option (ℕ × Message)) (j : ℕ) (m : Message) → (accepting ≡ true → s ≡ None) → s ≡ Some (j, m) → accepting ≡ false
 told-woken true s j m h e = absurd (absent-present s j m (h refl) e)
 told-woken false s j m h e = refl

@@ -1,4 +1,5 @@
 -- What each call replies: it is refused and hands back its table, or it does what follows.
+use Rattle.std.specs.Prelude.{Result, Ok, Err, ⊤}
 use Prim.Native.Nat.{ℕ, ◌<◌}
 use mathlib.Core.Path.{◌≡◌, refl, subst⁻¹}
 use mathlib.Core.Bool.{Bool, true, false, not}
@@ -9,7 +10,6 @@ use Rattle.alternative.specs.Guards.{lent}
 use Rattle.process.specs.declared.Place.{Place}
 use Rattle.rendezvous.specs.declared.ProcessTable.{ProcessTable}
 use Rattle.rendezvous.specs.declared.Refusal.{Refusal}
-use Rattle.rendezvous.specs.declared.Verdict.{Verdict}
 use Rattle.rendezvous.specs.declared.Reply.{Reply}
 use Rattle.process.specs.Process.{is_open}
 use Rattle.rendezvous.specs.Table.{process}
@@ -19,9 +19,9 @@ use Rattle.process.proofs.PlaceCases.{if-met}
 use Rattle.rendezvous.proofs.Verdicts.{process-passed, Admitted, offer-passed, withdraw-passed, first-closed}
 
 module _ (P : Reply → Type 0) (t : ProcessTable) (turned-away : (r : Refusal) → P (refused r t)) (p : ℕ) where
-  verdict-elim : (verdict : Verdict) (reply : Reply) → (verdict ≡ Verdict.Accepted → P reply) → P (if_accepted verdict t reply)
-  verdict-elim Verdict.Accepted reply h = h refl
-  verdict-elim (Verdict.Refused r) reply h = turned-away r
+  verdict-elim : (verdict : Result ⊤ Refusal) (reply : Reply) → (verdict ≡ Ok tt → P reply) → P (if_accepted verdict t reply)
+  verdict-elim (Ok tt) reply h = h refl
+  verdict-elim (Err r) reply h = turned-away r
 
   pub offer-elim : (gs : List Guard) → (Admitted t p (lent gs) → P (offered t p (lent gs))) → P (offer t p gs)
   unfolding offer_list

@@ -1,8 +1,9 @@
 -- Where no rule would change anything, no two open offers match.
+use Rattle.std.specs.Prelude.{Some, None}
 use Prim.Native.Nat.{ℕ, zero, suc, ◌+◌, ◌≤◌, ◌<◌}
 use mathlib.Core.Path.{◌≡◌, refl, sym, ◌∙◌, subst}
 use mathlib.Core.Bool.{Bool, true, false, cond, false≢true, true≢false}
-use mathlib.Core.Option.{some, none, none-ne-some}
+use Rattle.std.proofs.lemmas.Option.{none-some}
 use native.Mathlib.Omega.{arith}
 use lib.Dec.{ltb}
 use borrow.Author.Tests.{ltb-true, ltb-false}
@@ -94,18 +95,18 @@ module _ (t : ProcessTable) (good : Good t) (none_moves : Still t) where
       grows a b k n c d e = omega arith
 
   -- so a process with an open offer is past all its guards
-  open-past : (p : ℕ) (o : Transaction) → open_offer t p ≡ some o → ((k : ℕ) → Past (process t p).place (process t p).accepting k) × (own_list (process t p) ≡ o.guards)
+  open-past : (p : ℕ) (o : Transaction) → open_offer t p ≡ Some o → ((k : ℕ) → Past (process t p).place (process t p).accepting k) × (own_list (process t p) ≡ o.guards)
   open-past p o e = at (has_open_offer t p) refl e
     where
-      at : (b : Bool) → has_open_offer t p ≡ b → cond b (some (offer_by (process t p))) none ≡ some o
+      at : (b : Bool) → has_open_offer t p ≡ b → cond b (Some (offer_by (process t p))) None ≡ Some o
           → ((k : ℕ) → Past (process t p).place (process t p).accepting k) × (own_list (process t p) ≡ o.guards)
       at true f e =
           let a = and_parts (ltb p t.head.n) (is_open (process t p)) f in
           let h = ltb-true p t.head.n a.0 in
           (rests-past _ p _ _ _ (process t p).place (still p h _ refl) a.1 (λ i s. none-scans t.head.next.0 p i h s (omega arith)), cc)
-      at false f e = absurd (none-ne-some o e)
+      at false f e = absurd (none-some o e)
 
-  pub at_rest : (p q : ℕ) (o r : Transaction) → (p ≡ q → ⊥) → open_offer t p ≡ some o → open_offer t q ≡ some r → offers_match p o.guards q r.guards ≡ false
+  pub at_rest : (p q : ℕ) (o r : Transaction) → (p ≡ q → ⊥) → open_offer t p ≡ Some o → open_offer t q ≡ Some r → offers_match p o.guards q r.guards ≡ false
   at_rest p q o r ne e f =
       let a = open-past p o e in
       let b = open-past q r f in

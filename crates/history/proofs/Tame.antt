@@ -1,10 +1,10 @@
 -- A move of one process that keeps what holds of each process and of each two: what its new record has to give.
+use Rattle.std.specs.Prelude.{Option}
 use Prim.Native.Nat.{ℕ}
 use mathlib.Core.Path.{◌≡◌, refl, sym, ◌∙◌}
 use mathlib.Core.Bool.{Bool, true, false}
 use mathlib.Core.Logic.{◌⊎◌, inl, inr}
 use Rattle.alternative.specs.Guards.{guards_match}
-use Rattle.process.specs.declared.Signal.{Signal}
 use Rattle.process.specs.declared.Place.{Place}
 use Rattle.process.specs.declared.Process.{Process}
 use Rattle.process.specs.Process.{index_of, own_list, posted_list, own_guard, is_idle}
@@ -15,6 +15,7 @@ use Rattle.history.proofs.View.{View, upd, entered-each, upd-pair}
 use Rattle.history.proofs.Invariant.{Past, Tries, Commits, Waits, Shows, OnAt, Fine, Alone, Bound, Paired, Inv}
 use Rattle.history.proofs.Matches.{match-comm}
 use Rattle.history.proofs.Places.{waits-elim}
+use Rattle.alternative.specs.declared.Message.{Message}
 
 -- another process has committed to p
 pub record Held (v : View) (p : ℕ) : Type 0 where
@@ -120,6 +121,6 @@ module _ {head : Head} (v : View) (inv : Inv head v) (p : ℕ) where
       }) tame-out tame-in
 
     -- a move that leaves the lists alone
-    pub moves : (place : Place) (signal : Signal) (accepting : Bool) → let x = changed (v p) place signal accepting in
+    pub moves : (place : Place) (signal : Option (ℕ × Message)) (accepting : Bool) → let x = changed (v p) place signal accepting in
         Fine place (own_list (v p)) (posted_list (v p)) accepting signal → OnAt (own_list (v p)) (index_of place) → Tame v p pl x → Inv head (upd v p x)
     moves place signal accepting f on t = tame _ refl refl t f (inv.alone p).own on

@@ -1,12 +1,11 @@
 -- What each rule does to the open offers, and so to the totals: a commit closes two offers, and no other rule closes or opens one.
+use Rattle.std.specs.Prelude.{Option, Some, None}
 use Prim.Native.Nat.{ℕ, zero, suc, ◌+◌, ◌*◌, ◌≤◌, ◌<◌}
 use mathlib.Core.Path.{◌≡◌, refl, ap, ◌∙◌}
 use mathlib.Core.Bool.{Bool, true, false, cond, false≢true}
 use native.Mathlib.Omega.{arith}
 use lib.Dec.{ltb}
-use Rattle.alternative.specs.declared.Found.{Found}
 use Rattle.alternative.specs.Guards.{kept_match, next_enabled}
-use Rattle.process.specs.declared.Signal.{Signal}
 use Rattle.process.specs.declared.Place.{Place}
 use Rattle.process.specs.declared.State.{State}
 use Rattle.process.specs.declared.Process.{Process}
@@ -19,6 +18,7 @@ use Rattle.history.proofs.View.{split, View, upd, effected, upd_same, upd_other}
 use Rattle.history.proofs.Invariant.{Inv, Totalled, open_in}
 use Rattle.history.proofs.Places.{shows-elim, told-woken}
 use Rattle.history.proofs.Facts.{fine, at_names, accepts}
+use Rattle.alternative.specs.declared.Message.{Message}
 
 -- the part of one process in the count of open offers, and of a step to its place in that of the meetings
 abbrev pub part : Process → ℕ
@@ -72,9 +72,9 @@ module _ {head : Head} (v : View) (inv : Inv head v) (p : ℕ) where
   unfolding scan_from
   moved-scan-on q pl e o k = go (next_enabled (own_list (v p)) k)
     where
-      go : (f : Found) → OneMoved (v p) (at_place (v p) (scan_at f))
-      go (Found.At i) = opened pl e o _ refl refl
-      go Found.Missing = opened pl e o _ refl refl
+      go : (f : Option ℕ) → OneMoved (v p) (at_place (v p) (scan_at f))
+      go (Some i) = opened pl e o _ refl refl
+      go None = opened pl e o _ refl refl
 
   moved-sleep : (s q : ℕ) → (v p).place ≡ Place.Asleep s → (early : Bool) → Moved v p q (sleep_at (v p) s early)
   moved-sleep s q e true = opened _ e refl _ refl refl
@@ -97,20 +97,20 @@ module _ {head : Head} (v : View) (inv : Inv head v) (p : ℕ) where
       let after : open_at (v q).place false ≡ false = shows-elim (λ pl. open_at pl false ≡ false) refl refl (v q).place s in
       record { apart = (at_names v inv p i (rw e refl)).other; opens = rw (after, e, a, before) refl; tried = λ _. rw e refl }
 
-  moved-try : (i : ℕ) → (v p).place ≡ Place.Trying i → let q = (own_guard (v p) i).partner in (accepting : Bool) → (v q).accepting ≡ accepting → (found : Found)
+  moved-try : (i : ℕ) → (v p).place ≡ Place.Trying i → let q = (own_guard (v p) i).partner in (accepting : Bool) → (v q).accepting ≡ accepting → (found : Option ℕ)
       → Moved v p q (try (v p) i (v q) accepting found)
-  moved-try i e true a (Found.At j) = moved-commit i j e a
-  moved-try i e true a Found.Missing = moved-scan-on _ _ e refl (suc i)
-  moved-try i e false a (Found.At j) = moved-scan-on _ _ e refl (suc i)
-  moved-try i e false a Found.Missing = moved-scan-on _ _ e refl (suc i)
+  moved-try i e true a (Some j) = moved-commit i j e a
+  moved-try i e true a None = moved-scan-on _ _ e refl (suc i)
+  moved-try i e false a (Some j) = moved-scan-on _ _ e refl (suc i)
+  moved-try i e false a None = moved-scan-on _ _ e refl (suc i)
 
   moved-hand : (i j : ℕ) → (v p).place ≡ Place.Committed i j → let q = (own_guard (v p) i).partner in Moved v p q (hand_over (v p) i j (v q))
   unfolding hand_over
   moved-hand i j e = record { apart = (at_names v inv p i (rw e refl)).other; opens = rw e (omega arith); tried = λ c. absurd (false≢true c) }
 
-  moved-absorb : (q : ℕ) → (v p).place ≡ Place.Waiting → (s : Signal) → (v p).signal ≡ s → Moved v p q (absorb (v p) s)
-  moved-absorb q e Signal.Absent f = tt
-  moved-absorb q e (Signal.Present j m) f = record { stays = rw (e, told-woken _ _ j m (fine v inv p _ e).deaf f) refl; uncommitted = refl }
+  moved-absorb : (q : ℕ) → (v p).place ≡ Place.Waiting → (s : Option (ℕ × Message)) → (v p).signal ≡ s → Moved v p q (absorb (v p) s)
+  moved-absorb q e None f = tt
+  moved-absorb q e (Some (j, m)) f = record { stays = rw (e, told-woken _ _ j m (fine v inv p _ e).deaf f) refl; uncommitted = refl }
 
   moved_at : (d : ℕ) (pl : Place) → (v p).place ≡ pl → let q = named_by (v p) (index_of pl) in Moved v p q (rule_at d p (v p) q (v q) pl)
   moved_at d Place.Idle e = tt

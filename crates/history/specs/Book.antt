@@ -1,10 +1,10 @@
 -- To be believed. Document 01, "The plain book", and what CR 1 of document 02 says of it.
-use Rattle.std.specs.Prelude.{◌∷◌, ◌++◌}
+use Rattle.std.specs.Prelude.{◌∷◌, ◌++◌, Option, Some, None, slice_get}
 use Rattle.alternative.specs.Guards.{kept_match}
 use Rattle.alternative.specs.Exchange.{sent_by}
 use Rattle.rendezvous.specs.Numbers.{Said, made, ticket, place, same, outcome, withdrawn, too_late, movers, refusal}
 use Rattle.rendezvous.specs.Run.{Call, Offer, Step, Collect, Withdraw}
-use Rattle.history.specs.Types.{ℕ, suc, code, Bool, true, false, cond, List, [], Option, some, none, get_elem?, eqb, Message, Action, Guard, Found}
+use Rattle.history.specs.Types.{ℕ, suc, code, Bool, true, false, cond, List, [], eqb, Message, Action, Guard}
 
 -- "For each party it has an open offer (ticket and guard list) or none, and a due outcome (guard index, partner, message) or none. It also has a next ticket and the
 -- meetings so far": a meeting has "both tickets, p, i, q, j and the sending guard's message".
@@ -44,7 +44,7 @@ pub record History : Type 0 where
 
 -- "At first the next ticket is 0 and the rest is empty."
 abbrev pub empty_history : History
-empty_history = record { next = 0; opened = λ p. none; due = λ p. none; run = [] }
+empty_history = record { next = 0; opened = λ p. None; due = λ p. None; run = [] }
 
 -- "It is fed each call's arguments other than the desk, whether the call was refused, and the place that a step answers; it sees nothing of the desk." And whether a withdrawal is "answered "withdrawn""
 pub data Seen : Type 0 where
@@ -66,8 +66,8 @@ seen (movers set) = accepted
 
 -- "Where an entry lacks what it needs, the book is stuck": none.
 abbrev pub ◌>>=◌ : {A B : Type 0} → Option A → (A → Option B) → Option B
-◌>>=◌ none f = none
-◌>>=◌ (some a) f = f a
+◌>>=◌ None f = None
+◌>>=◌ (Some a) f = f a
 
 -- what the book has for each process, with another entry for p
 abbrev pub entered_for : {A : Type 0} → ℕ → A → (ℕ → A) → ℕ → A
@@ -75,9 +75,9 @@ entered_for p a old = λ q. cond (eqb q p) a (old q)
 
 -- "Accepted offer by p, who must have neither an open offer nor a due outcome: it becomes p's open offer under the next ticket, which then grows by 1."
 abbrev offering : History → ℕ → List Guard → Option Transaction → Option Due → Option History
-offering b p gs none none = some (record { next = suc b.next; opened = entered_for p (some (record { id = b.next; guards = gs })) b.opened; due = b.due; run = b.run })
-offering b p gs none (some d) = none
-offering b p gs (some o) d = none
+offering b p gs None None = Some (record { next = suc b.next; opened = entered_for p (Some (record { id = b.next; guards = gs })) b.opened; due = b.due; run = b.run })
+offering b p gs None (Some d) = None
+offering b p gs (Some o) d = None
 
 -- "the sending guard's message": of the two guards' actions
 abbrev pub senders_message : Action → Action → Message
@@ -96,54 +96,50 @@ with_rendezvous b p i mine g j theirs h =
     let m = senders_message g.action h.action in
     record {
       next = b.next;
-      opened = entered_for p none (entered_for q none b.opened);
-      due = entered_for p (some (record { index = i; partner = q; message = due_message g.action m }))
-          (entered_for q (some (record { index = j; partner = p; message = due_message h.action m })) b.due);
+      opened = entered_for p None (entered_for q None b.opened);
+      due = entered_for p (Some (record { index = i; partner = q; message = due_message g.action m }))
+          (entered_for q (Some (record { index = j; partner = p; message = due_message h.action m })) b.due);
       run = b.run ++ (Joined (record { id_p = mine.id; id_q = theirs.id; p = p; i = i; q = q; j = j; message = m }) ∷ []);
     }
 
 -- "guard i of p's open offer names q, and j is the index that rule 7's search keeps, with q's open list as the posted one"
-abbrev found_index : Found → Option ℕ
-found_index (Found.At j) = some j
-found_index Found.Missing = none
-
 unfoldable pub committing : History → ℕ → ℕ → Option History
 committing b p i = do
   mine ← b.opened p
-  g ← get_elem? mine.guards i
+  g ← slice_get mine.guards i
   theirs ← b.opened g.partner
-  j ← found_index (kept_match p g g.partner theirs.guards)
-  h ← get_elem? theirs.guards j
-  some (with_rendezvous b p i mine g j theirs h)
+  j ← kept_match p g g.partner theirs.guards
+  h ← slice_get theirs.guards j
+  Some (with_rendezvous b p i mine g j theirs h)
 
 -- "Step of p answered C with index i, the commit"; "Any other step ..: nothing changes.": whether the letter is C, and the index
 abbrev pub stepping : History → ℕ → Bool → Option ℕ → Option History
-stepping b p true (some i) = committing b p i
-stepping b p true none = none
-stepping b p false index = some b
+stepping b p true (Some i) = committing b p i
+stepping b p true None = None
+stepping b p false index = Some b
 
 -- "Accepted collection from p: p's due outcome is given and removed."
 abbrev collecting : History → ℕ → Option Due → Option History
-collecting b p none = none
-collecting b p (some d) = some (record { next = b.next; opened = b.opened; due = entered_for p none b.due; run = b.run })
+collecting b p None = None
+collecting b p (Some d) = Some (record { next = b.next; opened = b.opened; due = entered_for p None b.due; run = b.run })
 
 -- A withdrawal of p "answered "withdrawn" closes the party's open offer in the book and takes a moment of its own in the run".
 abbrev withdrawing : History → ℕ → Option Transaction → Option History
-withdrawing b p none = none
-withdrawing b p (some o) = some (record { next = b.next; opened = entered_for p none b.opened; due = b.due; run = b.run ++ (Withdrew (record { p = p; id = o.id }) ∷ []) })
+withdrawing b p None = None
+withdrawing b p (Some o) = Some (record { next = b.next; opened = entered_for p None b.opened; due = b.due; run = b.run ++ (Withdrew (record { p = p; id = o.id }) ∷ []) })
 
 -- the book after a call; "every refused call: nothing changes"; of withdrawals, "any other leaves the book as it was". An answer that no such call gives leaves the book stuck.
 unfoldable pub enter : History → Call → Seen → Option History
-enter b c refused = some b
+enter b c refused = Some b
 enter b (Offer p gs) accepted = offering b p gs (b.opened p) (b.due p)
-enter b (Offer p gs) (at letter index) = none
-enter b (Offer p gs) taken_back = none
-enter b (Step p) accepted = some b
+enter b (Offer p gs) (at letter index) = None
+enter b (Offer p gs) taken_back = None
+enter b (Step p) accepted = Some b
 enter b (Step p) (at letter index) = stepping b p (eqb letter (code "C")) index
-enter b (Step p) taken_back = none
+enter b (Step p) taken_back = None
 enter b (Collect p) accepted = collecting b p (b.due p)
-enter b (Collect p) (at letter index) = none
-enter b (Collect p) taken_back = none
-enter b (Withdraw p) accepted = some b
-enter b (Withdraw p) (at letter index) = none
+enter b (Collect p) (at letter index) = None
+enter b (Collect p) taken_back = None
+enter b (Withdraw p) accepted = Some b
+enter b (Withdraw p) (at letter index) = None
 enter b (Withdraw p) taken_back = withdrawing b p (b.opened p)

@@ -1,5 +1,5 @@
 -- To be believed. Document 01, "Edges to try": the starred cases, in its order, with its numbers.
-use Rattle.std.specs.Prelude.{map, ◌≡◌, ◌∷◌, ◌++◌}
+use Rattle.std.specs.Prelude.{map, ◌≡◌, ◌∷◌, ◌++◌, Option, Some, None}
 use Rattle.std.specs.Float.{binary32}
 use Rattle.std.specs.Float.Ieee.{of_bits}
 use Rattle.process.specs.Process.{fresh_process}
@@ -7,7 +7,7 @@ use Rattle.rendezvous.specs.Table.{most_processes, with_next, fresh_head, fresh_
 use Rattle.rendezvous.specs.Numbers.{Said, made, ticket, place, same, outcome, movers, refusal, said}
 use Rattle.rendezvous.specs.Run.{Call, Offer, Step, Collect}
 use Rattle.rendezvous.specs.Commands.{Command, New, Do, Movers, reply_to_command}
-use Rattle.history.specs.Types.{ℕ, Char, code, true, false, List, [], Option, some, none, replicate, Message, Action, Guard}
+use Rattle.history.specs.Types.{ℕ, Char, code, true, false, List, [], replicate, Message, Action, Guard}
 use Rattle.history.specs.Types.{ProcessTable}
 
 -- what the commands of a list say, each getting the table that the last one handed back
@@ -72,8 +72,8 @@ session m = makes 2 ∷ (map Do (session_calls m) ++ (Movers ∷ []))
 abbrev pub session_says : Message → List Said
 session_says m =
     made ∷ ticket 0 ∷ ticket 1
-    ∷ at "A" (some 0) ∷ at "P" none ∷ at "O" none ∷ at "H" none ∷ at "W" none
-    ∷ at "A" (some 0) ∷ at "T" (some 0) ∷ at "C" (some 0) ∷ at "M" none ∷ at "M" none
+    ∷ at "A" (Some 0) ∷ at "P" None ∷ at "O" None ∷ at "H" None ∷ at "W" None
+    ∷ at "A" (Some 0) ∷ at "T" (Some 0) ∷ at "C" (Some 0) ∷ at "M" None ∷ at "M" None
     ∷ outcome 0 0 m ∷ outcome 0 1 Message.Nothing ∷ movers 0 ∷ []
 
 abbrev pub case : List Command → List Said → Case
@@ -104,7 +104,7 @@ starred =
     -- parties 0 and 1, one guard each, at A on each other, tickets 0 and 1: a step of 0 changes nothing; a step of 1 puts it to S; then a step of 0 goes to P
     ∷ case
     (makes 2 ∷ offers 0 (send 1 0x40970a3d ∷ []) ∷ offers 1 (receive 0 ∷ []) ∷ steps 0 ∷ steps 1 ∷ steps 0 ∷ steps 1 ∷ steps 0 ∷ [])
-    (made ∷ ticket 0 ∷ ticket 1 ∷ at "A" (some 0) ∷ at "A" (some 0) ∷ same ∷ at "S" none ∷ at "P" none ∷ [])
+    (made ∷ ticket 0 ∷ ticket 1 ∷ at "A" (Some 0) ∷ at "A" (Some 0) ∷ same ∷ at "S" None ∷ at "P" None ∷ [])
     -- the session, whose reading is 4.72
     ∷ case (session (reading 0x40970a3d)) (session_says (reading 0x40970a3d))
     ∷ []

@@ -1,11 +1,11 @@
 -- To be believed. CR 2 of document 02, by cases: two sensors whose whole numbers would cross, guards that match but for their kinds, disabled guards, refusals, and the book's search.
-use Rattle.std.specs.Prelude.{map, pos, ◌≡◌, ◌∷◌, ◌++◌}
+use Rattle.std.specs.Prelude.{map, pos, ◌≡◌, ◌∷◌, ◌++◌, Some, None}
 use Rattle.alternative.specs.Guards.{of_kind}
 use Rattle.rendezvous.specs.Table.{fresh_table}
 use Rattle.rendezvous.specs.Numbers.{Said, made, ticket, outcome, movers, refusal}
 use Rattle.rendezvous.specs.Run.{Call, Offer, Step, Collect}
 use Rattle.rendezvous.specs.Commands.{Do, Movers}
-use Rattle.history.specs.Types.{ℕ, List, [], some, none, replicate, Message, Guard}
+use Rattle.history.specs.Types.{ℕ, List, [], replicate, Message, Guard}
 use Rattle.history.specs.Book.{Moment, Joined, empty_history, ◌>>=◌}
 use Rattle.history.specs.Machine.{book_after_all, made_by_all}
 use Rattle.history.specs.Tables.{tables}
@@ -27,16 +27,16 @@ pier_calls = Offer 0 awaits ∷ replicate 6 (Step 0) ++ Offer 1 measures ∷ rep
 
 abbrev pier_says : List Said
 pier_says =
-    ticket 0 ∷ at "A" (some 0) ∷ at "A" (some 1) ∷ at "P" none ∷ at "O" none ∷ at "H" none ∷ at "W" none
-    ∷ ticket 1 ∷ at "A" (some 0) ∷ at "T" (some 0) ∷ at "C" (some 0) ∷ at "M" none
-    ∷ at "M" none ∷ outcome 1 1 (wholes 340) ∷ outcome 0 0 Message.Nothing ∷ []
+    ticket 0 ∷ at "A" (Some 0) ∷ at "A" (Some 1) ∷ at "P" None ∷ at "O" None ∷ at "H" None ∷ at "W" None
+    ∷ ticket 1 ∷ at "A" (Some 0) ∷ at "T" (Some 0) ∷ at "C" (Some 0) ∷ at "M" None
+    ∷ at "M" None ∷ outcome 1 1 (wholes 340) ∷ outcome 0 0 Message.Nothing ∷ []
 
 -- process 0 waits with a guard of one kind; process 1 offers it one of another, finds no match, and waits too: nothing can move
 abbrev apart : ℕ → ℕ → Case
 apart k l = case
     (makes 2 ∷ map Do (Offer 0 (of_kind k (receive 1) ∷ []) ∷ replicate 5 (Step 0) ++ Offer 1 (of_kind l (sends 0 (wholes 7)) ∷ []) ∷ replicate 6 (Step 1)) ++ Movers ∷ [])
-    (made ∷ ticket 0 ∷ at "A" (some 0) ∷ at "P" none ∷ at "O" none ∷ at "H" none ∷ at "W" none
-    ∷ ticket 1 ∷ at "A" (some 0) ∷ at "T" (some 0) ∷ at "P" none ∷ at "O" none ∷ at "H" none ∷ at "W" none ∷ movers 0 ∷ [])
+    (made ∷ ticket 0 ∷ at "A" (Some 0) ∷ at "P" None ∷ at "O" None ∷ at "H" None ∷ at "W" None
+    ∷ ticket 1 ∷ at "A" (Some 0) ∷ at "T" (Some 0) ∷ at "P" None ∷ at "O" None ∷ at "H" None ∷ at "W" None ∷ movers 0 ∷ [])
 
 unfoldable pub stories : List Case
 stories =
@@ -52,13 +52,13 @@ stories =
     -- a disabled guard of the right kind is passed over, and so is an enabled one of another
     ∷ case
     (makes 2 ∷ map Do (Offer 0 (of_kind 3 (disabled 1) ∷ of_kind 4 (receive 1) ∷ of_kind 3 (receive 1) ∷ []) ∷ replicate 6 (Step 0) ++ Offer 1 (of_kind 3 (sends 0 (wholes 7)) ∷ []) ∷ replicate 4 (Step 1) ++ Step 0 ∷ Collect 0 ∷ []))
-    (made ∷ ticket 0 ∷ at "A" (some 1) ∷ at "A" (some 2) ∷ at "P" none ∷ at "O" none ∷ at "H" none ∷ at "W" none
-    ∷ ticket 1 ∷ at "A" (some 0) ∷ at "T" (some 0) ∷ at "C" (some 0) ∷ at "M" none ∷ at "M" none ∷ outcome 2 1 (wholes 7) ∷ [])
+    (made ∷ ticket 0 ∷ at "A" (Some 1) ∷ at "A" (Some 2) ∷ at "P" None ∷ at "O" None ∷ at "H" None ∷ at "W" None
+    ∷ ticket 1 ∷ at "A" (Some 0) ∷ at "T" (Some 0) ∷ at "C" (Some 0) ∷ at "M" None ∷ at "M" None ∷ outcome 2 1 (wholes 7) ∷ [])
     -- no refusal looks at a kind: 3, 4, 5, 6, and an offer with a disabled guard of kind 255, which is taken
     ∷ case
     (makes 2 ∷ map Do (Offer 0 (replicate 9 (of_kind 255 (receive 1))) ∷ Offer 0 (of_kind 255 (receive 0) ∷ []) ∷ Offer 0 (of_kind 255 (send 1 0x7fc00000) ∷ []) ∷ Offer 0 (of_kind 255 (disabled 1) ∷ [])
     ∷ Offer 0 (of_kind 255 (disabled 1) ∷ of_kind 254 (receive 1) ∷ []) ∷ Step 0 ∷ []))
-    (made ∷ refusal 3 ∷ refusal 4 ∷ refusal 5 ∷ refusal 6 ∷ ticket 0 ∷ at "A" (some 1) ∷ [])
+    (made ∷ refusal 3 ∷ refusal 4 ∷ refusal 5 ∷ refusal 6 ∷ ticket 0 ∷ at "A" (Some 1) ∷ [])
     ∷ []
 
 -- the rendezvous of the store and the pier, by the tables and by the book: guard 0 of process 1 with guard 1 of process 0
@@ -68,4 +68,4 @@ pier_run = Joined (record { id_p = 1; id_q = 0; p = 1; i = 0; q = 0; j = 1; mess
 pub record KindCases : Type 0 where
   pub cases : Hold stories
   pub made_run : made_by_all tables (fresh_table 2 1) pier_calls ≡ pier_run
-  pub book_run : ◌>>=◌ (book_after_all tables (fresh_table 2 1) empty_history pier_calls) (λ b. some b.run) ≡ some pier_run
+  pub book_run : ◌>>=◌ (book_after_all tables (fresh_table 2 1) empty_history pier_calls) (λ b. Some b.run) ≡ Some pier_run

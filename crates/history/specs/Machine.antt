@@ -1,8 +1,8 @@
 -- To be believed. What demand 3 speaks of, as any machine shows it that takes the calls; the table of document 01 is one (Tables).
-use Rattle.std.specs.Prelude.{◌≡◌, ◌∷◌, ◌++◌}
+use Rattle.std.specs.Prelude.{◌≡◌, ◌∷◌, ◌++◌, Option, Some}
 use Rattle.rendezvous.specs.Numbers.{Said}
 use Rattle.rendezvous.specs.Run.{Call}
-use Rattle.history.specs.Types.{ℕ, List, [], Option, some}
+use Rattle.history.specs.Types.{ℕ, List, []}
 use Rattle.history.specs.Book.{Transaction, Moment, History, seen, ◌>>=◌, enter}
 
 -- What a call says, what it leaves, and the moments of the run that it makes; the open offer of each process; and that "no task's step would change the desk".
@@ -18,7 +18,7 @@ pub record Machine : Type 1 where
 module _ (m : Machine) where
   -- the book after it, or none if it was stuck
   unfoldable pub book_after_all : m.State → History → List Call → Option History
-  book_after_all s b [] = some b
+  book_after_all s b [] = Some b
   book_after_all s b (c ∷ cs) = do
     after ← enter b c (seen (m.says s c))
     book_after_all (m.after s c) after cs
@@ -32,4 +32,4 @@ module _ (m : Machine) where
   unfoldable pub EachCall : (History → Call → Said → History → Type 0) → m.State → History → List Call → Type 0
   EachCall Fact s b [] = Unit {0}
   EachCall Fact s b (c ∷ cs) =
-      (after : History) → enter b c (seen (m.says s c)) ≡ some after → Fact b c (m.says s c) after × EachCall Fact (m.after s c) after cs
+      (after : History) → enter b c (seen (m.says s c)) ≡ Some after → Fact b c (m.says s c) after × EachCall Fact (m.after s c) after cs

@@ -1,11 +1,11 @@
 -- To be believed. CR 3 of document 02: "a sleeper leaves S at its d-th own step there. Its earlier steps count as changes". So it is in every list of calls from any fresh table, told by
 -- the answers alone: where a process naps, just d of its steps in a row are answered S, the one to S and d - 1 early ones, and the step after them takes it elsewhere, unless it withdraws. (That it goes to S
 -- at all is rule 5's.)
-use Rattle.std.specs.Prelude.{◌+◌, ◌<◌, ◌≤◌, ◌≡◌, ◌∷◌}
+use Rattle.std.specs.Prelude.{◌+◌, ◌<◌, ◌≤◌, ◌≡◌, ◌∷◌, Option, None}
 use Rattle.rendezvous.specs.Table.{most_processes, fresh_table}
 use Rattle.rendezvous.specs.Numbers.{Said, made, ticket, place, same, outcome, withdrawn, too_late, movers, refusal}
 use Rattle.rendezvous.specs.Run.{Call, Offer, Step, Collect, Withdraw, said_to, table_after, table_after_all}
-use Rattle.history.specs.Types.{ℕ, code, cond, List, [], Option, none, eqb, ProcessTable}
+use Rattle.history.specs.Types.{ℕ, code, cond, List, [], eqb, ProcessTable}
 
 -- the process whose call it is
 abbrev pub caller_of : Call → ℕ
@@ -36,7 +36,7 @@ slept p s t (c ∷ cs) = slept p (cond (eqb p (caller_of c)) (slept_on s (said_t
 pub record NapLasts (d p : ℕ) (t : ProcessTable) (s : ℕ) : Type 0 where
   pub most : s ≤ d
   -- a nap that is begun and not over: the next own step is answered S, too
-  pub goes_on : 1 ≤ s → s < d → said_to t (Step p) ≡ place (code "S") none
+  pub goes_on : 1 ≤ s → s < d → said_to t (Step p) ≡ place (code "S") None
   -- the d-th own step at S leads elsewhere
   pub ends : s ≡ d → (letter : ℕ) × (index : Option ℕ) × (said_to t (Step p) ≡ place letter index) × (letter ≡ code "S" → ⊥)
 

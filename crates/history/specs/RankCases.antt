@@ -1,11 +1,11 @@
 -- To be believed. CR 5 of document 02, by cases: "The alarm must beat the trend line", equal ranks, higher ranks that do not match, the scanning side, refusals, and the book's search.
-use Rattle.std.specs.Prelude.{map, ◌≡◌, ◌∷◌, ◌++◌}
+use Rattle.std.specs.Prelude.{map, ◌≡◌, ◌∷◌, ◌++◌, Some, None}
 use Rattle.alternative.specs.Guards.{of_kind, of_rank}
 use Rattle.rendezvous.specs.Table.{fresh_table}
 use Rattle.rendezvous.specs.Numbers.{Said, made, ticket, outcome, refusal}
 use Rattle.rendezvous.specs.Run.{Call, Offer, Step, Collect}
 use Rattle.rendezvous.specs.Commands.{Do}
-use Rattle.history.specs.Types.{ℕ, false, List, [], some, none, replicate, Message, Action, Guard}
+use Rattle.history.specs.Types.{ℕ, false, List, [], replicate, Message, Action, Guard}
 use Rattle.history.specs.Book.{Moment, Joined, empty_history, ◌>>=◌}
 use Rattle.history.specs.Machine.{book_after_all, made_by_all}
 use Rattle.history.specs.Tables.{tables}
@@ -25,9 +25,9 @@ meet_calls offers scans g = Offer 0 offers ∷ map (λ i. Step 0) scans ++ repli
 
 abbrev meet_says : List ℕ → ℕ → Message → Message → List Said
 meet_says scans j mine theirs =
-    ticket 0 ∷ map (λ i. at "A" (some i)) scans ++ at "P" none ∷ at "O" none ∷ at "H" none ∷ at "W" none
-    ∷ ticket 1 ∷ at "A" (some 0) ∷ at "T" (some 0) ∷ at "C" (some 0) ∷ at "M" none
-    ∷ at "M" none ∷ outcome j 1 mine ∷ outcome 0 0 theirs ∷ []
+    ticket 0 ∷ map (λ i. at "A" (Some i)) scans ++ at "P" None ∷ at "O" None ∷ at "H" None ∷ at "W" None
+    ∷ ticket 1 ∷ at "A" (Some 0) ∷ at "T" (Some 0) ∷ at "C" (Some 0) ∷ at "M" None
+    ∷ at "M" None ∷ outcome j 1 mine ∷ outcome 0 0 theirs ∷ []
 
 -- process 1 receives, and gets the number n of guard j
 abbrev takes : List Guard → List ℕ → Guard → ℕ → ℕ → Case
@@ -68,14 +68,14 @@ stories =
     -- "The scanning side still goes by list order.": processes 1 and 2 wait, and 0 meets the one that its first guard names
     ∷ case
     (makes 3 ∷ map Do (Offer 1 (receive 0 ∷ []) ∷ replicate 5 (Step 1) ++ Offer 2 (receive 0 ∷ []) ∷ replicate 5 (Step 2) ++ Offer 0 (ranked 0 184 ∷ of_rank 9 (sends 2 (wholes 17)) ∷ []) ∷ replicate 4 (Step 0) ++ Collect 0 ∷ []))
-    (made ∷ ticket 0 ∷ at "A" (some 0) ∷ at "P" none ∷ at "O" none ∷ at "H" none ∷ at "W" none
-    ∷ ticket 1 ∷ at "A" (some 0) ∷ at "P" none ∷ at "O" none ∷ at "H" none ∷ at "W" none
-    ∷ ticket 2 ∷ at "A" (some 0) ∷ at "T" (some 0) ∷ at "C" (some 0) ∷ at "M" none ∷ outcome 0 1 Message.Nothing ∷ [])
+    (made ∷ ticket 0 ∷ at "A" (Some 0) ∷ at "P" None ∷ at "O" None ∷ at "H" None ∷ at "W" None
+    ∷ ticket 1 ∷ at "A" (Some 0) ∷ at "P" None ∷ at "O" None ∷ at "H" None ∷ at "W" None
+    ∷ ticket 2 ∷ at "A" (Some 0) ∷ at "T" (Some 0) ∷ at "C" (Some 0) ∷ at "M" None ∷ outcome 0 1 Message.Nothing ∷ [])
     -- and so with two guards to one partner
     ∷ case
     (makes 2 ∷ map Do (Offer 1 (receive 0 ∷ []) ∷ replicate 5 (Step 1) ++ Offer 0 figures ∷ replicate 4 (Step 0) ++ Step 1 ∷ Collect 1 ∷ []))
-    (made ∷ ticket 0 ∷ at "A" (some 0) ∷ at "P" none ∷ at "O" none ∷ at "H" none ∷ at "W" none
-    ∷ ticket 1 ∷ at "A" (some 0) ∷ at "T" (some 0) ∷ at "C" (some 0) ∷ at "M" none ∷ at "M" none ∷ outcome 0 0 (wholes 184) ∷ [])
+    (made ∷ ticket 0 ∷ at "A" (Some 0) ∷ at "P" None ∷ at "O" None ∷ at "H" None ∷ at "W" None
+    ∷ ticket 1 ∷ at "A" (Some 0) ∷ at "T" (Some 0) ∷ at "C" (Some 0) ∷ at "M" None ∷ at "M" None ∷ outcome 0 0 (wholes 184) ∷ [])
     -- no refusal looks at a rank: 3, 4, 5 and 6
     ∷ case
     (makes 2 ∷ map Do (Offer 0 (replicate 9 (of_rank 255 (receive 1))) ∷ Offer 0 (of_rank 255 (receive 0) ∷ []) ∷ Offer 0 (of_rank 255 (send 1 0x7fc00000) ∷ []) ∷ Offer 0 (of_rank 255 (disabled 1) ∷ []) ∷ Offer 0 (of_rank 255 (receive 1) ∷ []) ∷ []))
@@ -92,4 +92,4 @@ alarm_run = Joined (record { id_p = 1; id_q = 0; p = 1; i = 0; q = 0; j = 1; mes
 pub record RankCases : Type 0 where
   pub cases : Hold stories
   pub made_run : made_by_all tables (fresh_table 2 1) alarm_calls ≡ alarm_run
-  pub book_run : ◌>>=◌ (book_after_all tables (fresh_table 2 1) empty_history alarm_calls) (λ b. some b.run) ≡ some alarm_run
+  pub book_run : ◌>>=◌ (book_after_all tables (fresh_table 2 1) empty_history alarm_calls) (λ b. Some b.run) ≡ Some alarm_run

@@ -1,11 +1,10 @@
 -- To be believed. CR 6 of document 02, by cases: where its part of refusal 7 begins, what counts as open, which calls count, and what a commit on a damaged table may leave.
-use Rattle.std.specs.Prelude.{map, ◌≡◌, ◌∷◌, ◌++◌}
-use Rattle.process.specs.declared.Signal.{Signal}
+use Rattle.std.specs.Prelude.{map, ◌≡◌, ◌∷◌, ◌++◌, Some, None}
 use Rattle.process.specs.Process.{fresh_process}
 use Rattle.rendezvous.specs.Table.{with_head, fresh_table, open_offers}
 use Rattle.rendezvous.specs.Numbers.{refusal}
 use Rattle.rendezvous.specs.Run.{Call, Offer, Step, Collect, Withdraw, table_after_all}
-use Rattle.history.specs.Types.{ℕ, Bool, true, false, List, [], some, none, replicate, Message, Place, ProcessTable}
+use Rattle.history.specs.Types.{ℕ, Bool, true, false, List, [], replicate, Message, Place, ProcessTable}
 use Rattle.history.specs.Cases.{Case, Hold, collects, steps, receive, send, reading, at, session_calls}
 use Rattle.history.specs.Further.{by_hand, table}
 
@@ -37,7 +36,7 @@ sums =
 
 -- process 0 at a place, with wake count 0 where `accepting` is true; process 1 has a guard posted, for the kept index at C
 abbrev placed : ℕ → Place → Bool → ProcessTable
-placed next place accepting = table 2 next (by_hand 0 place Signal.Absent accepting (receive 1 ∷ []) [] ∷ by_hand 1 Place.Idle Signal.Absent false [] (receive 0 ∷ []) ∷ [])
+placed next place accepting = table 2 next (by_hand 0 place None accepting (receive 1 ∷ []) [] ∷ by_hand 1 Place.Idle None false [] (receive 0 ∷ []) ∷ [])
 
 -- an offer counts as open there, so that it needs a ticket, or it does not
 abbrev open_at : Bool → Place → List Case
@@ -48,7 +47,7 @@ closed_at accepting place = formed (placed 0 place accepting) ∷ []
 
 -- three records of which two are processes: the third, at E, is nobody's
 abbrev past : ℕ → ProcessTable
-past n = table n 0 (fresh_process ∷ fresh_process ∷ by_hand 0 Place.Entering Signal.Absent false (receive 1 ∷ []) [] ∷ [])
+past n = table n 0 (fresh_process ∷ fresh_process ∷ by_hand 0 Place.Entering None false (receive 1 ∷ []) [] ∷ [])
 
 -- "the open offers are those of parties at E, A, T, P, O or S, or at H or W with wake count 0": by the place and the wake count
 unfoldable pub opens : List Case
@@ -88,13 +87,13 @@ sheets =
 
 -- No list of calls leads here: process 1 is at T on 0, which has wake count 0 although it is at E. The commit closes the offer of 1 alone, so that the sum grows by 1.
 abbrev early : ℕ → ProcessTable
-early next = table 2 next (by_hand 0 Place.Entering Signal.Absent true (receive 1 ∷ []) (receive 1 ∷ []) ∷ by_hand 1 (Place.Trying 0) Signal.Absent false (send 0 0x40970a3d ∷ []) [] ∷ [])
+early next = table 2 next (by_hand 0 Place.Entering None true (receive 1 ∷ []) (receive 1 ∷ []) ∷ by_hand 1 (Place.Trying 0) None false (send 0 0x40970a3d ∷ []) [] ∷ [])
 
 -- Document 01: "A call on a damaged desk may give one that 7 turns away at the next call.": this commit does, and answers C, unless a ticket is left
 unfoldable pub commits : List Case
 commits =
-    record { start = early 2; commands = steps 1 ∷ steps 1 ∷ collects 9 ∷ []; says = at "C" (some 0) ∷ refusal 7 ∷ refusal 7 ∷ [] }
-    ∷ record { start = early 3; commands = steps 1 ∷ steps 1 ∷ collects 9 ∷ []; says = at "C" (some 0) ∷ at "M" none ∷ refusal 2 ∷ [] }
+    record { start = early 2; commands = steps 1 ∷ steps 1 ∷ collects 9 ∷ []; says = at "C" (Some 0) ∷ refusal 7 ∷ refusal 7 ∷ [] }
+    ∷ record { start = early 3; commands = steps 1 ∷ steps 1 ∷ collects 9 ∷ []; says = at "C" (Some 0) ∷ at "M" None ∷ refusal 2 ∷ [] }
     ∷ []
 
 pub record SheetCases : Type 0 where

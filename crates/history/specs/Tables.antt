@@ -1,10 +1,10 @@
 -- To be believed. The table of documents 01 and 02 as a machine: the moments that its calls make, and its open offers, told from the tables alone.
-use Rattle.std.specs.Prelude.{◌&&◌, ◌∷◌}
+use Rattle.std.specs.Prelude.{◌&&◌, ◌∷◌, Option, Some, None}
 use Rattle.process.specs.Process.{is_at, if_committed, own_list, own_guard, posted_guard}
 use Rattle.rendezvous.specs.Table.{process, has_open_offer}
 use Rattle.rendezvous.specs.Calls.{Quiescent}
 use Rattle.rendezvous.specs.Run.{Call, Offer, Step, Collect, Withdraw, said_to, table_after}
-use Rattle.history.specs.Types.{ℕ, not, cond, List, [], Option, some, none, Place, Process, ProcessTable}
+use Rattle.history.specs.Types.{ℕ, not, cond, List, [], Place, Process, ProcessTable}
 use Rattle.history.specs.Book.{Transaction, Moment, Joined, Withdrew, senders_message}
 use Rattle.history.specs.Machine.{Machine}
 
@@ -31,7 +31,7 @@ abbrev pub offer_by : Process → Transaction
 offer_by x = record { id = x.transaction.0; guards = own_list x }
 
 abbrev pub open_offer : ProcessTable → ℕ → Option Transaction
-open_offer t p = cond (has_open_offer t p) (some (offer_by (process t p))) none
+open_offer t p = cond (has_open_offer t p) (Some (offer_by (process t p))) None
 
 abbrev pub tables : Machine
 tables = record { State = ProcessTable; says = said_to; after = table_after; makes = λ t c. made_by t c (table_after t c); opened = open_offer; Rests = Quiescent }

@@ -1,6 +1,6 @@
 -- To be believed as names only, gathered for the definitions here: the libraries' and the types that the code declares. No definition of its own.
 pub use Rattle.std.specs.Prelude.{◌≤◌, ◌≡◌, ◌&&◌, ◌||◌, ◌∷◌, ◌++◌, ◌⊎◌}
-pub use Rattle.alternative.specs.Types.{ℕ, suc, Char, code, Bool, true, false, not, cond, List, [], Option, some, none, get_elem?, replicate, eqb}
-pub use Rattle.alternative.specs.declared.{Message.Message, Action.Action, Guard.Guard, Found.Found}
+pub use Rattle.alternative.specs.Types.{ℕ, suc, Char, code, Bool, true, false, not, cond, List, [], replicate, eqb}
+pub use Rattle.alternative.specs.declared.{Message.Message, Action.Action, Guard.Guard}
 pub use Rattle.process.specs.declared.{Place.Place, Process.Process}
 pub use Rattle.rendezvous.specs.declared.{ProcessTable.ProcessTable}

@@ -1,11 +1,10 @@
 -- To be believed. CR 1 of document 02, by cases: the answer at every place, what a withdrawal leaves, its refusals in order, the race with a commit, and the run of whole meetings.
-use Rattle.std.specs.Prelude.{map, ◌≡◌, ◌∷◌, ◌++◌}
-use Rattle.process.specs.declared.Signal.{Signal}
+use Rattle.std.specs.Prelude.{map, ◌≡◌, ◌∷◌, ◌++◌, Some, None}
 use Rattle.rendezvous.specs.Table.{with_head, with_withdrawal, fresh_table}
 use Rattle.rendezvous.specs.Numbers.{Said, made, ticket, outcome, withdrawn, too_late, refusal}
 use Rattle.rendezvous.specs.Run.{Call, Offer, Step, Collect, Withdraw, table_after}
 use Rattle.rendezvous.specs.Commands.{Command, Do}
-use Rattle.history.specs.Types.{ℕ, Bool, true, false, List, [], some, none, replicate, Message, Place, ProcessTable}
+use Rattle.history.specs.Types.{ℕ, Bool, true, false, List, [], replicate, Message, Place, ProcessTable}
 use Rattle.history.specs.Book.{Moment, Joined, Withdrew, empty_history, ◌>>=◌}
 use Rattle.history.specs.Machine.{book_after_all, made_by_all}
 use Rattle.history.specs.Tables.{tables}
@@ -18,7 +17,7 @@ withdraws p = Do (Withdraw p)
 
 -- process 0 at a place, with wake count 0 where `accepting` is true; process 1 has a guard posted, for the kept index at C
 abbrev placed : Place → Bool → ProcessTable
-placed place accepting = table 2 2 (by_hand 0 place Signal.Absent accepting (receive 1 ∷ []) [] ∷ by_hand 1 Place.Idle Signal.Absent false [] (receive 0 ∷ []) ∷ [])
+placed place accepting = table 2 2 (by_hand 0 place None accepting (receive 1 ∷ []) [] ∷ by_hand 1 Place.Idle None false [] (receive 0 ∷ []) ∷ [])
 
 -- what a withdrawal says there with wake count 0, and with 1
 abbrev says : Place → Said → Said → List Case
@@ -45,7 +44,7 @@ abbrev tried : List Command
 tried = makes 2 ∷ offers 0 (receive 1 ∷ []) ∷ replicate 5 (steps 0) ++ offers 1 (send 0 0x40970a3d ∷ []) ∷ steps 1 ∷ steps 1 ∷ []
 
 abbrev tried_says : List Said
-tried_says = made ∷ ticket 0 ∷ at "A" (some 0) ∷ at "P" none ∷ at "O" none ∷ at "H" none ∷ at "W" none ∷ ticket 1 ∷ at "A" (some 0) ∷ at "T" (some 0) ∷ []
+tried_says = made ∷ ticket 0 ∷ at "A" (Some 0) ∷ at "P" None ∷ at "O" None ∷ at "H" None ∷ at "W" None ∷ ticket 1 ∷ at "A" (Some 0) ∷ at "T" (Some 0) ∷ []
 
 unfoldable pub stories : List Case
 stories =
@@ -53,18 +52,18 @@ stories =
     case (makes 2 ∷ withdraws 0 ∷ withdraws 2 ∷ []) (made ∷ refusal 14 ∷ refusal 2 ∷ [])
     ∷ record { start = placed (Place.Scanning 1) false; commands = withdraws 0 ∷ withdraws 1 ∷ withdraws 9 ∷ []; says = replicate 3 (refusal 7) }
     -- The slot closes before the commit: the partner passes on.
-    ∷ case (tried ++ withdraws 0 ∷ steps 1 ∷ withdraws 0 ∷ []) (tried_says ++ withdrawn ∷ at "P" none ∷ refusal 14 ∷ [])
+    ∷ case (tried ++ withdraws 0 ∷ steps 1 ∷ withdraws 0 ∷ []) (tried_says ++ withdrawn ∷ at "P" None ∷ refusal 14 ∷ [])
     -- It closes after the commit: too late for both, and at M they are turned away.
     ∷ case
     (tried ++ steps 1 ∷ withdraws 0 ∷ withdraws 1 ∷ steps 1 ∷ withdraws 0 ∷ withdraws 1 ∷ steps 0 ∷ withdraws 0 ∷ collects 0 ∷ collects 1 ∷ [])
-    (tried_says ++ at "C" (some 0) ∷ too_late ∷ too_late ∷ at "M" none ∷ too_late ∷ refusal 14 ∷ at "M" none ∷ refusal 14
+    (tried_says ++ at "C" (Some 0) ∷ too_late ∷ too_late ∷ at "M" None ∷ too_late ∷ refusal 14 ∷ at "M" None ∷ refusal 14
     ∷ outcome 0 1 (reading 0x40970a3d) ∷ outcome 0 0 Message.Nothing ∷ [])
     ∷ []
 
 -- Process 0 at a place, and 1 asleep, both with a signal and with a posted list that is not the own one (by the calls alone none is so).
 abbrev odd : Place → Bool → ProcessTable
 odd place accepting =
-    let signal = Signal.Present 0 (reading 0x40970a3d) in
+    let signal = Some (0, reading 0x40970a3d) in
     table 2 8 (by_hand 7 place signal accepting (receive 1 ∷ []) (receive 1 ∷ receive 1 ∷ []) ∷ by_hand 6 (Place.Asleep 0) signal true (receive 0 ∷ []) (receive 0 ∷ receive 0 ∷ []) ∷ [])
 
 abbrev left : Bool → Place → ProcessTable
@@ -104,5 +103,5 @@ pub record Withdrawals : Type 0 where
   pub stays : Stays true (Place.Committed 0 0 ∷ []) × Stays false (Place.Committed 0 0 ∷ shows)
   -- a moment of its own, by the tables and by the book, and the tickets of all moments
   pub made_run : made_by_all tables (fresh_table 2 1) again ≡ again_run
-  pub book_run : ◌>>=◌ (book_after_all tables (fresh_table 2 1) empty_history again) (λ b. some b.run) ≡ some again_run
+  pub book_run : ◌>>=◌ (book_after_all tables (fresh_table 2 1) empty_history again) (λ b. Some b.run) ≡ Some again_run
   pub tickets : ids_of again_run ≡ 0 ∷ 2 ∷ 1 ∷ []

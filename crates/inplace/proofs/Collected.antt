@@ -1,4 +1,5 @@
 -- A collection, by the bytes of the record.
+use Rattle.std.specs.Prelude.{Ok, Err}
 use Prim.Native.Nat.{ℕ, ◌+◌, ◌≤◌, ◌<◌}
 use mathlib.Core.Path.{◌≡◌, refl, ap, ◌∙◌}
 use mathlib.Core.List.{List}
@@ -31,8 +32,8 @@ use Rattle.inplace.proofs.Left.{left-within}
 use Rattle.inplace.proofs.Turned.{collect-passed}
 
 -- nothing is collected below M's tag
-not-met : (s : ProcessTable) (p : ℕ) (x : Process) (i j : ℕ) (m : Message) (tag : ℕ) → tag < 10 → collected s p x (place_by tag i j m) ≡ record { answer = Answer.Refused Refusal.NotMet; table = s }
-not-met s p x i j m tag = by-tag (λ k. k < 10 → collected s p x (place_by k i j m) ≡ record { answer = Answer.Refused Refusal.NotMet; table = s })
+not-met : (s : ProcessTable) (p : ℕ) (x : Process) (i j : ℕ) (m : Message) (tag : ℕ) → tag < 10 → collected s p x (place_by tag i j m) ≡ record { answer = Err Refusal.NotMet; table = s }
+not-met s p x i j m tag = by-tag (λ k. k < 10 → collected s p x (place_by k i j m) ≡ record { answer = Err Refusal.NotMet; table = s })
     (λ h. refl) (λ h. refl) (λ h. refl) (λ h. refl) (λ h. refl) (λ h. refl) (λ h. refl) (λ h. refl) (λ h. refl) (λ h. refl) (λ k l h. absurd (omega arith)) tag
 
 module _ (t : List ℕ) (p : ℕ) (ready : Ready t p) where
@@ -52,7 +53,7 @@ module _ (t : List ℕ) (p : ℕ) (ready : Ready t p) where
       ∙ ap (λ (k : ℕ). collected (table_of t) p (process_of r) (place_by k (byte r 1) (byte r 2) (message_of (part r 28 9)))) (byte_of t p 0 (omega arith))
 
   -- below M's tag it is turned away by 13
-  pub collect-refused : byte t (a + 0) < 10 → collect (table_of t) p ≡ record { answer = Answer.Refused Refusal.NotMet; table = table_of t }
+  pub collect-refused : byte t (a + 0) < 10 → collect (table_of t) p ≡ record { answer = Err Refusal.NotMet; table = table_of t }
   collect-refused h = collect-by ∙ not-met (table_of t) p (process_of r) (byte r 1) (byte r 2) (message_of (part r 28 9)) (byte t (a + 0)) h
 
   module _ (met : 10 ≤ byte t (a + 0)) where
@@ -72,7 +73,7 @@ module _ (t : List ℕ) (p : ℕ) (ready : Ready t p) where
         ∙ ap (byte t) (omega (arith, e))
 
     -- what is collected, and the table without it
-    gives : collect (table_of t) p ≡ record { answer = Answer.Collected (byte t (a + 1)) (byte t (a + 8 + byte t (a + 1))) (message_of (part t (a + 28) 9)); table = put (table_of t) p (at_place (process_of r) Place.Idle) }
+    gives : collect (table_of t) p ≡ record { answer = Ok (Answer.Collected (byte t (a + 1)) (byte t (a + 8 + byte t (a + 1))) (message_of (part t (a + 28) 9))); table = put (table_of t) p (at_place (process_of r) Place.Idle) }
     gives =
         collect-by
         ∙ ap (collected (table_of t) p (process_of r)) (last_place (byte t (a + 0)) (byte r 1) (byte r 2) (message_of (part r 28 9)) met)
@@ -80,7 +81,7 @@ module _ (t : List ℕ) (p : ℕ) (ready : Ready t p) where
 
     -- what it leaves, where the record is written at I
     pub collected-left : (t' r' : List ℕ) (m : Message) → Wrote t t' a 256 r' → process_of r' ≡ at_place (process_of r) Place.Idle → m ≡ message_of (part t (a + 28) 9)
-        → Leaves (collect (table_of t) p) (λ k. eqb k p) t t' (Answer.Collected (byte t (a + 1)) (byte t (a + 8 + byte t (a + 1))) m)
+        → Leaves (collect (table_of t) p) (λ k. eqb k p) t t' (Ok (Answer.Collected (byte t (a + 1)) (byte t (a + 8 + byte t (a + 1))) m))
     collected-left t' r' m w e f =
         let h = below-most t p ready in
         left-within _ (λ k. eqb k p) t t' _ (within-record h w (λ k. eqb k p) (eq-eqb p p refl)) (gives ∙ rw (f, record-put h w, e)) refl

@@ -1,13 +1,13 @@
 -- Whether a table is well-formed, read from its bytes.
+use Rattle.std.specs.Prelude.{Some, None}
 use Prim.Native.Nat.{ℕ, zero, suc, ◌+◌, ◌*◌, ◌-◌, ◌%◌, ◌≤◌, ◌<◌}
 use mathlib.Core.Path.{◌≡◌, refl, sym, ap, subst, ◌∙◌}
-use mathlib.Core.Bool.{Bool, true, false, ◌&&◌, ◌||◌, not, false≢true}
+use mathlib.Core.Bool.{Bool, true, false, ◌&&◌, ◌||◌, not, cond, false≢true}
 use mathlib.Core.List.{List}
 use mathlib.Core.Logic.{⊎_elim}
 use native.Mathlib.Nat.{mod-eq_of_lt, not-suc-le-zero, le_of_suc-le-suc, eq-or-lt_of_le}
 use native.Mathlib.Numerals.{add-one}
 use native.Mathlib.Omega.{arith}
-use lib.ListN.{take, drop}
 use lib.Seq.{get_or-take}
 use lib.Dec.{ltb, leb, eqb}
 use borrow.Author.Tests.{ltb-true, ltb-false, leb-true, lt-ltb, le-ltb, le-leb, lt-leb, eqb-true, eqb-false, ne_eqb}
@@ -23,7 +23,7 @@ use Rattle.process.proofs.OnlyTold.{partner-below}
 use Rattle.rendezvous.specs.Table.{most_processes, process, open_offers}
 use Rattle.rendezvous.specs.WellFormed.{all_below, count_fits, nap_fits, fits_at, totals_fit, well_formed}
 use Rattle.rendezvous.proofs.Forms.{open_below}
-use Rattle.records.specs.Layout.{part, record_length}
+use Rattle.records.specs.Layout.{part}
 use Rattle.records.specs.Reading.{guards_at, place_by, place_of, signal_of, process_of}
 use Rattle.records.specs.Private.{indexed, indexes_fit, record_fits}
 use Rattle.records.proofs.Guards.{partner-at}
@@ -139,10 +139,6 @@ all-not test k (suc n) h e =
     and-false true = refl
     and-false false = refl
 
--- a part that starts where a record does and is lent has that record's bytes
-pub part-is : (t : List ℕ) (p a : ℕ) → a ≡ record_start p → take ((a + record_length) - a) (drop a t) ≡ record_bytes t p
-part-is t p a e = let f : (a + record_length) - a ≡ record_length = omega arith in rw (f, e)
-
 -- whose offer is open, by the bytes
 pub open_at : (t : List ℕ) (p : ℕ) → p < most_processes → (r : List ℕ) → r ≡ record_bytes t p → is_open (process_of r) ≡ is_open (process (table_of t) p)
 open_at t p h r e = ap (λ (x : Process). is_open x) (ap process_of e ∙ sym (record-at t p h))
@@ -151,6 +147,15 @@ open_at t p h r e = ap (λ (x : Process). is_open x) (ap process_of e ∙ sym (r
 pub open-all : (t : List ℕ) (k : ℕ) → k ≡ byte t 0 → open_below (table_of t) k ≡ open_offers (table_of t)
 unfolding table_of head_of
 open-all t k e = rw e
+
+-- what is told of the records: that one does not fit, or that all do, and how many offers are open
+pub counted-none : (fit : Bool) (n : ℕ) → None ≡ cond fit (Some n) None → fit ≡ false
+counted-none false n e = refl
+counted-none true n e = let z : ◌≡◌ {A = ℕ} 0 1 = cc in absurd (omega arith)
+
+pub counted-some : (fit : Bool) (n pending : ℕ) → Some pending ≡ cond fit (Some n) None → (fit ≡ true) × (pending ≡ n)
+counted-some true n pending e = (refl, cc)
+counted-some false n pending e = let z : ◌≡◌ {A = ℕ} 0 1 = cc in absurd (omega arith)
 
 -- refusal 7, in the order in which the code asks
 pub formed-is : (t : List ℕ) → well_formed (table_of t) ≡ (count_fits (byte t 0) && (nap_fits (byte t 1)

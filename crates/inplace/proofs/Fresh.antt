@@ -1,14 +1,15 @@
 -- A table that is cleared, and then given its number of processes and the length of a nap, is a fresh one.
+use Rattle.std.specs.Prelude.{Ok, Err}
 use Prim.Native.Nat.{ℕ, zero, suc, ◌+◌, ◌≤◌, ◌<◌}
 use mathlib.Core.Path.{◌≡◌, refl, sym, ap, ◌∙◌}
 use mathlib.Core.Bool.{true, false≢true}
-use mathlib.Core.List.{List}
+use mathlib.Core.List.{List, ◌++◌}
 use native.Mathlib.Omega.{arith}
-use lib.ListN.{length, set, drop, replicate, length-set, length-drop, length-replicate, get_or-replicate}
-use lib.Seq.{get_or-set_same, get_or-set_other, drop-set-lt, ext_get_or, length-take-le, get_or-take, get_or-drop}
+use lib.ListN.{length, set, drop, replicate, length-set, length-append, length-drop, length-replicate, get_or-replicate}
+use lib.Seq.{get_or-set_same, get_or-set_other, drop-set-lt, ext_get_or, length-take-le, get_or-take, get_or-drop, take_at, drop_at}
 use Rattle.wire.specs.Reading.{byte, word_of, long_of}
 use Rattle.process.specs.Process.{fresh_process}
-use Rattle.rendezvous.specs.declared.{Refusal.Refusal, Verdict.Verdict, Answer.Answer}
+use Rattle.rendezvous.specs.declared.{Refusal.Refusal, Answer.Answer}
 use Rattle.rendezvous.specs.Table.{fresh_table}
 use Rattle.rendezvous.specs.Refusals.{create_verdict}
 use Rattle.records.specs.Layout.{part}
@@ -17,12 +18,6 @@ use Rattle.inplace.specs.Layout.{table_length, record_start, record_bytes}
 use Rattle.inplace.specs.Reading.{head_of, table_of}
 use Rattle.inplace.specs.Calls.{remake}
 use Rattle.inplace.specs.Leaves.{Leaves}
-
--- the first k bytes are 0, and the others are as they were
-pub record Cleared (t₀ t : List ℕ) (k : ℕ) : Type 0 where
-  pub long : length t ≡ length t₀
-  pub zeros : (i : ℕ) → i < k → byte t i ≡ 0
-  pub behind : drop k t ≡ drop k t₀
 
 -- a part of zeros
 zero-part : (t : List ℕ) (a m : ℕ) → a + m ≤ length t → ((k : ℕ) → a ≤ k → k < a + m → byte t k ≡ 0) → part t a m ≡ replicate m 0
@@ -72,18 +67,23 @@ fresh-is t n nap h z =
     ∙ rw (first, second)
 
 -- refused: every byte stays
-pub remade-not : (t : List ℕ) (n nap : ℕ) (refusal : Refusal) → create_verdict n nap ≡ Verdict.Refused refusal → Leaves (remake (table_of t) n nap) (λ r. true) t t (Answer.Refused refusal)
+pub remade-not : (t : List ℕ) (n nap : ℕ) (refusal : Refusal) → create_verdict n nap ≡ Err refusal → Leaves (remake (table_of t) n nap) (λ r. true) t t (Err refusal)
 unfolding remake
 remade-not t n nap refusal e = record { answers = rw e; stands_for = rw e; still = λ _. refl; others = λ r h. refl; behind = refl }
 
--- a fresh table in the place of what stood there: t is cleared
-pub remade : (t₀ t : List ℕ) (n nap : ℕ) → create_verdict n nap ≡ Verdict.Accepted → table_length ≤ length t → ((k : ℕ) → k < table_length → byte t k ≡ 0) → drop table_length t ≡ drop table_length t₀
-    → Leaves (remake (table_of t₀) n nap) (λ r. true) t₀ (set (set t 0 n) 1 nap) Answer.Made
+-- a fresh table in the place of what stood there: zeros, and what stands behind the table
+pub remade : (t₀ zeros : List ℕ) (n nap : ℕ) → create_verdict n nap ≡ Ok tt → length zeros ≡ table_length → ((k : ℕ) → k < table_length → byte zeros k ≡ 0)
+    → Leaves (remake (table_of t₀) n nap) (λ r. true) t₀ (set (set (zeros ++ drop table_length t₀) 0 n) 1 nap) (Ok Answer.Made)
 unfolding remake
-remade t₀ t n nap e h z b = record {
-  answers = rw e;
-  stands_for = rw e (fresh-is t n nap h z);
-  still = λ f. absurd (false≢true f);
-  others = λ r f. absurd (false≢true (sym f));
-  behind = drop-set-lt table_length (set t 0 n) 1 nap (omega arith) ∙ drop-set-lt table_length t 0 n (omega arith) ∙ b;
-}
+remade t₀ zeros n nap e l z =
+    let rest = drop table_length t₀ in
+    let t = zeros ++ rest in
+    let front = take_at zeros rest table_length l in
+    let zero : (k : ℕ) → k < table_length → byte t k ≡ 0 = λ k h. sym (get_or-take table_length t k 0 h) ∙ ap (λ (b : List ℕ). byte b k) front ∙ z k h in
+    record {
+      answers = rw e;
+      stands_for = rw e (fresh-is t n nap (omega (arith, length-append zeros rest)) zero);
+      still = λ f. absurd (false≢true f);
+      others = λ r f. absurd (false≢true (sym f));
+      behind = drop-set-lt table_length (set t 0 n) 1 nap (omega arith) ∙ drop-set-lt table_length t 0 n (omega arith) ∙ drop_at zeros rest table_length l;
+    }

@@ -1,4 +1,5 @@
 -- A withdrawal, by the bytes of the record.
+use Rattle.std.specs.Prelude.{Ok, Err}
 use Prim.Native.Nat.{ℕ, ◌+◌, ◌*◌, ◌^◌, ◌≤◌, ◌<◌}
 use mathlib.Core.Path.{◌≡◌, refl, ap, ◌∙◌}
 use mathlib.Core.Bool.{Bool, true, false, not, ◌||◌}
@@ -18,7 +19,7 @@ use Rattle.records.specs.Layout.{part}
 use Rattle.records.specs.Reading.{place_by, place_of, process_of}
 use Rattle.records.proofs.Cuts.{Wrote, wrote-sets}
 use Rattle.records.proofs.Tags.{by-tag, last_place}
-use Rattle.inplace.specs.Types.{Process, Refusal, Verdict, Answer}
+use Rattle.inplace.specs.Types.{Process, Refusal, Answer}
 use Rattle.inplace.specs.Layout.{record_start, record_bytes}
 use Rattle.inplace.specs.Reading.{head_of, table_of}
 use Rattle.inplace.specs.Leaves.{Leaves}
@@ -61,20 +62,20 @@ module _ (t : List ℕ) (p : ℕ) (ready : Ready t p) where
   accepting = byte t (record_start p + 7)
 
   -- what a withdrawal does, by these two bytes
-  withdraw-by : withdraw (table_of t) p ≡ if_accepted (require (not (eqb tag 0 || leb 10 tag)) Refusal.NothingToWithdraw Verdict.Accepted) (table_of t) (withdrawn_or_late (table_of t) p (process_of r) (late_by tag accepting))
+  withdraw-by : withdraw (table_of t) p ≡ if_accepted (require (not (eqb tag 0 || leb 10 tag)) Refusal.NothingToWithdraw (Ok tt)) (table_of t) (withdrawn_or_late (table_of t) p (process_of r) (late_by tag accepting))
   unfolding process_of place_of
   withdraw-by =
       let m = message_of (part r 28 9) in
       withdraw-passed t p ready
-      ∙ ap (λ (x : Process). if_accepted (require (not (is_at "IM" x.place)) Refusal.NothingToWithdraw Verdict.Accepted) (table_of t) (withdrawn_or_late (table_of t) p x (commit_came_first x.place x.accepting))) (record-at t p (below-most t p ready))
+      ∙ ap (λ (x : Process). if_accepted (require (not (is_at "IM" x.place)) Refusal.NothingToWithdraw (Ok tt)) (table_of t) (withdrawn_or_late (table_of t) p x (commit_came_first x.place x.accepting))) (record-at t p (below-most t p ready))
       ∙ rw (nothing-by (byte r 1) (byte r 2) m (byte r 0), late-is (byte r 1) (byte r 2) m (byte r 7) (byte r 0), byte_of t p 0 (omega arith), byte_of t p 7 (omega arith))
 
   -- at I and M it is turned away by 14
-  pub withdraw-refused : (eqb tag 0 || leb 10 tag) ≡ true → withdraw (table_of t) p ≡ record { answer = Answer.Refused Refusal.NothingToWithdraw; table = table_of t }
+  pub withdraw-refused : (eqb tag 0 || leb 10 tag) ≡ true → withdraw (table_of t) p ≡ record { answer = Err Refusal.NothingToWithdraw; table = table_of t }
   withdraw-refused e = withdraw-by ∙ rw e
 
   -- a commit came first
-  pub withdraw-late : (eqb tag 0 || leb 10 tag) ≡ false → late_by tag accepting ≡ true → withdraw (table_of t) p ≡ record { answer = Answer.TooLate; table = table_of t }
+  pub withdraw-late : (eqb tag 0 || leb 10 tag) ≡ false → late_by tag accepting ≡ true → withdraw (table_of t) p ≡ record { answer = Ok Answer.TooLate; table = table_of t }
   withdraw-late e f = withdraw-by ∙ rw (e, f)
 
   -- the head is read from the same bytes
@@ -84,7 +85,7 @@ module _ (t : List ℕ) (p : ℕ) (ready : Ready t p) where
 
   -- what it leaves, where the head and then the record are written
   pub given-up-left : (eqb tag 0 || leb 10 tag) ≡ false → late_by tag accepting ≡ false → ((k : ℕ) → byte t k < 256) → (n : ℕ) → n ≡ long_of (part t 16 8) → (t₁ t₂ r₂ : List ℕ) → t₁ ≡ sets t 16 (long_bytes (n + 1))
-      → Wrote t₁ t₂ (record_start p) 256 r₂ → process_of r₂ ≡ given_up (process_of (record_bytes t₁ p)) → Leaves (withdraw (table_of t) p) (λ k. eqb k p) t t₂ Answer.Withdrawn
+      → Wrote t₁ t₂ (record_start p) 256 r₂ → process_of r₂ ≡ given_up (process_of (record_bytes t₁ p)) → Leaves (withdraw (table_of t) p) (λ k. eqb k p) t t₂ (Ok Answer.Withdrawn)
   unfolding head_of
   given-up-left e f small n x t₁ t₂ r₂ u v g =
       let h = below-most t p ready in
@@ -92,4 +93,4 @@ module _ (t : List ℕ) (p : ℕ) (ready : Ready t p) where
       let head : head_of t₁ ≡ with_withdrawal (head_of t) = withdrawal-put (omega (arith, totals-small t p ready small)) w (omega arith) in
       let at : 16 + 8 ≤ 32 = omega arith in
       let table : table_of t₂ ≡ with_head (put (table_of t) p (given_up (process_of r))) (with_withdrawal (head_of t)) = rw (record-put h v, g, (within-head at w (λ k. false)).others p refl, head-put at w, head) in
-      left-within _ (λ k. eqb k p) t t₂ Answer.Withdrawn (within-then (within-head at w (λ k. eqb k p)) (within-record h v (λ k. eqb k p) (eq-eqb p p refl))) (withdraw-by ∙ rw (e, f, table, head_read)) refl
+      left-within _ (λ k. eqb k p) t t₂ (Ok Answer.Withdrawn) (within-then (within-head at w (λ k. eqb k p)) (within-record h v (λ k. eqb k p) (eq-eqb p p refl))) (withdraw-by ∙ rw (e, f, table, head_read)) refl

@@ -1,4 +1,5 @@
 -- What a call leaves: nothing is written, or only where it may be.
+use Rattle.std.specs.Prelude.{Result, Ok}
 use Prim.Native.Nat.{ℕ, ◌<◌}
 use mathlib.Core.Path.{◌≡◌, refl, sym, ap, subst, ◌∙◌}
 use mathlib.Core.Bool.{Bool, true, false, ◌||◌, cond, false≢true}
@@ -20,9 +21,10 @@ use Rattle.inplace.specs.Leaves.{changes_nothing, Leaves}
 use Rattle.inplace.specs.Private.{Steps}
 use Rattle.inplace.proofs.Rows.{record-at}
 use Rattle.inplace.proofs.Writing.{Within, record-put, within-record}
+use Rattle.rendezvous.specs.declared.Refusal.{Refusal}
 
 -- every byte is as it was
-pub nothing_left : (reply : Reply) (changed : ℕ → Bool) (t t' : List ℕ) (answer : Answer) → reply ≡ record { answer = answer; table = table_of t } → t' ≡ t → Leaves reply changed t t' answer
+pub nothing_left : (reply : Reply) (changed : ℕ → Bool) (t t' : List ℕ) (answer : Result Answer Refusal) → reply ≡ record { answer = answer; table = table_of t } → t' ≡ t → Leaves reply changed t t' answer
 nothing_left reply changed t t' answer e f = record {
   answers = sym (ap (λ (r : Reply). r.answer) e);
   stands_for = ap table_of f ∙ sym (ap (λ (r : Reply). r.table) e);
@@ -32,7 +34,7 @@ nothing_left reply changed t t' answer e f = record {
 }
 
 -- bytes are written, and the answer says so
-pub left-within : (reply : Reply) (changed : ℕ → Bool) (t t' : List ℕ) (answer : Answer) → Within changed t t' → reply ≡ record { answer = answer; table = table_of t' } → changes_nothing answer ≡ false
+pub left-within : (reply : Reply) (changed : ℕ → Bool) (t t' : List ℕ) (answer : Result Answer Refusal) → Within changed t t' → reply ≡ record { answer = answer; table = table_of t' } → changes_nothing answer ≡ false
     → Leaves reply changed t t' answer
 left-within reply changed t t' answer w e f = record {
   answers = sym (ap (λ (r : Reply). r.answer) e);
@@ -51,15 +53,15 @@ module _ (t t' : List ℕ) (p : ℕ) (h : p < 32) where
   unfolding stepped
   stepped-is e f = ap (applied (table_of t) p q) f
 
-  abbrev said : Bool → Answer
-  said moved = cond moved (Answer.Moved (process (table_of t') p).place) Answer.Unchanged
+  abbrev said : Bool → Result Answer Refusal
+  said moved = cond moved (Ok (Answer.Moved (process (table_of t') p).place)) (Ok Answer.Unchanged)
 
   by-effect : (e : Effect) → effect_on (table_of t) p ≡ e → (moved : Bool) → Leaves (applied (table_of t) p q e) (changed_by p q e) t t' (said moved) → Steps t p t' moved
   by-effect e f moved l = subst (λ (r : Reply). Leaves r (stepped_by (table_of t) p) t t' (said moved)) (sym (stepped-is e f)) (subst (λ (x : Effect). Leaves (applied (table_of t) p q e) (changed_by p q x) t t' (said moved)) (sym f) l)
 
   -- neither record is changed
   pub steps-not : effect_on (table_of t) p ≡ Neither → t' ≡ t → Steps t p t' false
-  steps-not f g = by-effect Neither f false (nothing_left _ (changed_by p q Neither) t t' Answer.Unchanged refl g)
+  steps-not f g = by-effect Neither f false (nothing_left _ (changed_by p q Neither) t t' (Ok Answer.Unchanged) refl g)
 
   -- the own record alone, whose bytes become r
   pub steps-own : (r : List ℕ) → Wrote t t' (record_start p) 256 r → effect_on (table_of t) p ≡ Own (process_of r) → Steps t p t' true

@@ -1,7 +1,9 @@
 -- Whether a step changes anything, by the bytes of the records that its rule reads; and the set of the processes whose step does.
+use Rattle.std.specs.Prelude.{Ok, Err}
+use Rattle.std.specs.Int.{from_bool}
 use Prim.Native.Nat.{ℕ, zero, suc, ◌+◌, ◌≤◌}
 use mathlib.Core.Path.{◌≡◌, refl, ap, ◌∙◌}
-use mathlib.Core.Bool.{Bool, true, false, not, ◌||◌}
+use mathlib.Core.Bool.{Bool, true, false, not, ◌||◌, cond}
 use mathlib.Core.List.{List}
 use native.Mathlib.Omega.{arith}
 use lib.Dec.{eqb, ltb, leb}
@@ -102,11 +104,16 @@ module _ (t : List ℕ) (p : ℕ) (ready : Ready t p) where
 abbrev pub mover : List ℕ → ℕ → Bool
 mover t r = changes (effect_on (table_of t) r)
 
+-- the bit of a member
+pub bit-is : (b : Bool) → from_bool b ≡ cond b 1 0
+bit-is true = refl
+bit-is false = refl
+
 -- the set, once it is put together
-pub set_gives : (t : List ℕ) (p set : ℕ) → well_formed (table_of t) ≡ true → p ≡ 0 → Above (mover t) (byte t 0) p set → Answer.Runnable set ≡ (runnable (table_of t)).answer
+pub set_gives : (t : List ℕ) (p set : ℕ) → well_formed (table_of t) ≡ true → p ≡ 0 → Above (mover t) (byte t 0) p set → Ok (Answer.Runnable set) ≡ (runnable (table_of t)).answer
 unfolding table_of head_of
 set_gives t p set formed e a = ap (λ (r : Reply). r.answer) (runnable-gives (table_of t) set formed (above-end (mover t) (byte t 0) p set e a))
 
 -- a table that is not well-formed has none
-pub set-refused : (t : List ℕ) → well_formed (table_of t) ≡ false → Answer.Refused Refusal.NotWellFormed ≡ (runnable (table_of t)).answer
+pub set-refused : (t : List ℕ) → well_formed (table_of t) ≡ false → Err Refusal.NotWellFormed ≡ (runnable (table_of t)).answer
 set-refused t e = ap (λ (r : Reply). r.answer) (runnable-refused (table_of t) e)

@@ -1,7 +1,8 @@
 -- An offer that is turned away, and one that is accepted.
+use Rattle.std.specs.Prelude.{Result, Ok, Err, ⊤}
 use Prim.Native.Nat.{ℕ, ◌+◌, ◌≤◌, ◌<◌}
 use mathlib.Core.Path.{◌≡◌, refl, sym, ap, ◌∙◌}
-use mathlib.Core.Bool.{true, false, ◌&&◌}
+use mathlib.Core.Bool.{◌&&◌}
 use mathlib.Core.List.{List}
 use native.Mathlib.Omega.{arith}
 use lib.Dec.{leb, eqb}
@@ -12,15 +13,14 @@ use Rattle.wire.specs.Reading.{byte, word_of, message_of}
 use Rattle.wire.specs.Writing.{word_bytes}
 use Rattle.process.specs.Process.{is_idle}
 use Rattle.rendezvous.specs.Table.{last_transaction, process, put, with_head, with_next}
-use Rattle.rendezvous.specs.WellFormed.{well_formed}
-use Rattle.rendezvous.specs.Refusals.{list_verdict, state_verdict, offer_verdict}
+use Rattle.rendezvous.specs.Refusals.{process_verdict, list_verdict, state_verdict, offer_verdict}
 use Rattle.rendezvous.specs.Calls.{if_accepted, entering, offered, offer_list}
 use Rattle.rendezvous.proofs.Verdicts.{passed as test-passed, list-pass, list-stop}
 use Rattle.records.specs.Layout.{part}
 use Rattle.records.specs.Reading.{place_by, place_of, process_of}
 use Rattle.records.proofs.Cuts.{Wrote, part-after}
 use Rattle.records.proofs.Tags.{by-tag, last_place}
-use Rattle.inplace.specs.Types.{Process, ProcessTable, Refusal, Verdict, Answer, Reply}
+use Rattle.inplace.specs.Types.{Process, ProcessTable, Refusal, Answer, Reply}
 use Rattle.inplace.specs.Layout.{record_start, record_bytes}
 use Rattle.inplace.specs.Reading.{head_of, table_of}
 use Rattle.inplace.specs.Leaves.{Leaves}
@@ -28,7 +28,7 @@ use Rattle.inplace.specs.Private.{Ready}
 use Rattle.inplace.proofs.Rows.{record-at, place_at, byte_of}
 use Rattle.inplace.proofs.Writing.{within-then, record-put, within-record, head-put, within-head, next-put}
 use Rattle.inplace.proofs.Left.{left-within}
-use Rattle.inplace.proofs.Turned.{formless, missing, passed}
+use Rattle.inplace.proofs.Turned.{turned, passed}
 
 -- a place is I where its tag is 0
 idle-by : (i j : ℕ) (m : Message) (tag : ℕ) → is_idle (place_by tag i j m) ≡ eqb tag 0
@@ -38,7 +38,7 @@ idle-by i j m tag = by-tag (λ k. is_idle (place_by k i j m) ≡ eqb k 0) refl r
     last k h = rw (last_place k i j m h, ne_eqb k 0 (λ e. omega arith))
 
 -- a list that is not turned away has at most eight guards
-pub list-most : (n p : ℕ) (list : GuardList) → list_verdict n p list Verdict.Accepted ≡ Verdict.Accepted → list.count ≤ 8
+pub list-most : (n p : ℕ) (list : GuardList) → list_verdict n p list (Ok tt) ≡ Ok tt → list.count ≤ 8
 unfolding list_verdict
 list-most n p list e =
     let a = test-passed (leb 1 list.count && leb list.count 8) Refusal.GuardCount _ e in
@@ -46,26 +46,21 @@ list-most n p list e =
 
 module _ (t : List ℕ) (p : ℕ) (list : GuardList) where
   abbrev refused_by : Refusal → Reply
-  refused_by r = record { answer = Answer.Refused r; table = table_of t }
+  refused_by r = record { answer = Err r; table = table_of t }
 
-  abbrev state : Verdict
+  abbrev state : Result ⊤ Refusal
   state = state_verdict (process (table_of t) p).place (table_of t).head.next
 
   -- an accepted offer gets this ticket
   offered-is : (ticket : ℕ) → ticket ≡ word_of (part t 4 4)
-      → offered (table_of t) p list ≡ record { answer = Answer.Offered (record { 0 = ticket }); table = with_head (put (table_of t) p (entering (process (table_of t) p) (record { 0 = ticket }) list)) (with_next (head_of t) (ticket + 1)) }
+      → offered (table_of t) p list ≡ record { answer = Ok (Answer.Offered (record { 0 = ticket })); table = with_head (put (table_of t) p (entering (process (table_of t) p) (record { 0 = ticket }) list)) (with_next (head_of t) (ticket + 1)) }
   unfolding offered table_of head_of
   offered-is ticket e = rw e
 
-  -- turned away by 7 ..
-  pub offer-formless : well_formed (table_of t) ≡ false → offer_list (table_of t) p list ≡ refused_by Refusal.NotWellFormed
+  -- turned away by 7 or 2
+  pub offer-turned : (r : Refusal) → process_verdict (table_of t) p ≡ Err r → offer_list (table_of t) p list ≡ refused_by r
   unfolding offer_list offer_verdict
-  offer-formless e = formless t p (list_verdict (table_of t).head.n p list state) (offered (table_of t) p list) e
-
-  -- .. and by 2
-  pub offer-missing : well_formed (table_of t) ≡ true → byte t 0 ≤ p → offer_list (table_of t) p list ≡ refused_by Refusal.NoSuchProcess
-  unfolding offer_list offer_verdict
-  offer-missing e h = missing t p (list_verdict (table_of t).head.n p list state) (offered (table_of t) p list) e h
+  offer-turned r e = turned t p (list_verdict (table_of t).head.n p list state) (offered (table_of t) p list) r e
 
   module _ (ready : Ready t p) where
     -- by neither: its list is tested, and then the state
@@ -74,10 +69,10 @@ module _ (t : List ℕ) (p : ℕ) (list : GuardList) where
     offer-tested = passed t p (list_verdict (table_of t).head.n p list state) (offered (table_of t) p list) ready
 
     -- turned away by its list, 3 to 6
-    pub offer-unfit : (r : Refusal) → Verdict.Refused r ≡ list_verdict (byte t 0) p list Verdict.Accepted → offer_list (table_of t) p list ≡ refused_by r
+    pub offer-unfit : (r : Refusal) → Err r ≡ list_verdict (byte t 0) p list (Ok tt) → offer_list (table_of t) p list ≡ refused_by r
     offer-unfit r e = offer-tested ∙ rw (list-stop (byte t 0) p list r state e)
 
-    module _ (h : p < 32) (fits : list_verdict (byte t 0) p list Verdict.Accepted ≡ Verdict.Accepted) where
+    module _ (h : p < 32) (fits : list_verdict (byte t 0) p list (Ok tt) ≡ Ok tt) where
       -- not by its list: the state alone is left
       offer-fit : offer_list (table_of t) p list ≡ if_accepted state (table_of t) (offered (table_of t) p list)
       offer-fit = offer-tested ∙ rw (list-pass (byte t 0) p list state (sym fits))
@@ -107,7 +102,7 @@ module _ (t : List ℕ) (p : ℕ) (list : GuardList) where
 
         -- accepted: the next ticket is written into the head, and then the record
         pub offer-left : (ticket : ℕ) (t' t'' r : List ℕ) → ticket ≡ word_of (part t 4 4) → ticket < last_transaction → Wrote t t' 4 4 (word_bytes (ticket + 1)) → Wrote t' t'' (record_start p) 256 r
-            → process_of r ≡ entering (process_of (record_bytes t' p)) (record { 0 = ticket }) list → Leaves (offer_list (table_of t) p list) (λ q. eqb q p) t t'' (Answer.Offered (record { 0 = ticket }))
+            → process_of r ≡ entering (process_of (record_bytes t' p)) (record { 0 = ticket }) list → Leaves (offer_list (table_of t) p list) (λ q. eqb q p) t t'' (Ok (Answer.Offered (record { 0 = ticket })))
         offer-left ticket t' t'' r e l w v f =
             let d = with_head (table_of t) (with_next (head_of t) (ticket + 1)) in
             let head : table_of t' ≡ d = head-put (omega arith) w ∙ ap (with_head (table_of t)) (next-put (omega arith) w) in
@@ -115,4 +110,4 @@ module _ (t : List ℕ) (p : ℕ) (list : GuardList) where
             let new = f ∙ ap (λ (x : Process). entering x (record { 0 = ticket }) list) old in
             let table = record-put h v ∙ ap (λ (x : ProcessTable). put x p (process_of r)) head ∙ ap (put d p) new in
             let written = within-then (within-head (omega arith) w (λ q. eqb q p)) (within-record h v (λ q. eqb q p) (eq-eqb p p refl)) in
-            left-within _ (λ q. eqb q p) t t'' _ written (offer-passed (omega arith) ∙ offered-is ticket e ∙ ap (λ (x : ProcessTable). record { answer = Answer.Offered (record { 0 = ticket }); table = x }) (sym table)) refl
+            left-within _ (λ q. eqb q p) t t'' _ written (offer-passed (omega arith) ∙ offered-is ticket e ∙ ap (λ (x : ProcessTable). record { answer = Ok (Answer.Offered (record { 0 = ticket })); table = x }) (sym table)) refl

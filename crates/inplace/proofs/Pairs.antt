@@ -1,4 +1,5 @@
 -- Rules 7 and 9, which write two records.
+use Rattle.std.specs.Prelude.{Option, Some, None}
 use Prim.Native.Nat.{ℕ, ◌+◌, ◌^◌, ◌≤◌, ◌<◌}
 use mathlib.Core.Path.{◌≡◌, refl, sym, ap, subst, ◌∙◌}
 use mathlib.Core.Bool.{Bool, true, false, not, ◌||◌, false≢true}
@@ -12,10 +13,9 @@ use lib.Dec.{eqb}
 use borrow.Author.Tests.{eq-eqb, ne_eqb}
 use Rattle.alternative.specs.Guards.{blank, kept_match, next_enabled}
 use Rattle.alternative.specs.Exchange.{sent_by, received_by}
-use Rattle.alternative.specs.declared.{Found.Found, Guard.Guard, Action.Action}
+use Rattle.alternative.specs.declared.{Guard.Guard, Action.Action}
 use Rattle.wire.specs.Reading.{byte, message_of}
 use Rattle.wire.specs.Writing.{long_bytes}
-use Rattle.process.specs.declared.Signal.{Signal}
 use Rattle.process.specs.Process.{own_list, own_guard, posted_list}
 use Rattle.process.specs.Rules.{Own, Both, at_place, with_accepting, with_signal, scan_at, scan_from, try, hand_over}
 use Rattle.rendezvous.specs.Table.{process, put, with_head, with_meeting}
@@ -104,7 +104,7 @@ module _ (t t₁ t₂ t₃ : List ℕ) (p q j m : ℕ) (r s : List ℕ) (paired 
       let y = record_bytes t q in
       let index : byte t (record_start p + 1) ≡ byte x 1 = sym (byte_of t p 1 (omega arith)) in
       let accepts : (process_of y).accepting ≡ true = rw (← record-at t q paired.1) k.0 in
-      let found : kept_match p (own_guard (process_of x) (byte x 1)) q (posted_list (process_of y)) ≡ Found.At j = rw (← record-at t q paired.1, ← record-at t p paired.0, ← index) k.1 in
+      let found : kept_match p (own_guard (process_of x) (byte x 1)) q (posted_list (process_of y)) ≡ Some j = rw (← record-at t q paired.1, ← record-at t p paired.0, ← index) k.1 in
       effect-with t p paired.2 q 3 paired.4 paired.1 paired.3 ∙ rw (accepts, found)
 
   pub commit-steps : Keeps t p q j → m < 2 ^ 64 → m ≡ (head_of t).meetings + 1 → Wrote t t₁ 8 8 (long_bytes m) → Wrote t₁ t₂ (record_start q) 256 s → Wrote t₂ t₃ (record_start p) 256 r
@@ -142,7 +142,7 @@ module _ (t t₁ t₂ : List ℕ) (p q : ℕ) (r s sent received : List ℕ) (pa
   kept = action_of (part (record_bytes t q) 152 104) j
 
   hand-effect : i < byte (record_bytes t p) 5 → i < 8 → j < byte (record_bytes t q) 6 → j < 8
-      → effect_on (table_of t) p ≡ Both (at_place (process_of (record_bytes t p)) (Place.Met i (received_by sends kept))) (with_signal (process_of (record_bytes t q)) (Signal.Present j (sent_by sends)))
+      → effect_on (table_of t) p ≡ Both (at_place (process_of (record_bytes t p)) (Place.Met i (received_by sends kept))) (with_signal (process_of (record_bytes t q)) (Some (j, sent_by sends)))
   unfolding hand_over process_of
   hand-effect a b c d =
       effect-with t p paired.2 q 4 paired.4 paired.1 paired.3
@@ -150,10 +150,10 @@ module _ (t t₁ t₂ : List ℕ) (p q : ℕ) (r s sent received : List ℕ) (pa
 
   pub hand-steps : i < byte (record_bytes t p) 5 → i < 8 → j < byte (record_bytes t q) 6 → j < 8 → message_of sent ≡ sent_by sends → message_of received ≡ received_by sends kept
       → Wrote t t₁ (record_start q) 256 s → Wrote t₁ t₂ (record_start p) 256 r
-      → process_of s ≡ with_signal (process_of (record_bytes t q)) (Signal.Present j (message_of sent)) → process_of r ≡ at_place (process_of (record_bytes t₁ p)) (Place.Met (byte (record_bytes t₁ p) 1) (message_of received)) → Steps t p t₂ true
+      → process_of s ≡ with_signal (process_of (record_bytes t q)) (Some (j, message_of sent)) → process_of r ≡ at_place (process_of (record_bytes t₁ p)) (Place.Met (byte (record_bytes t₁ p) 1) (message_of received)) → Steps t p t₂ true
   hand-steps a b c d es er v w fs fr =
       let own : List ℕ → Process = λ z. at_place (process_of z) (Place.Met (byte z 1) (received_by sends kept)) in
-      let other : List ℕ → Process = λ z. with_signal (process_of z) (Signal.Present j (sent_by sends)) in
+      let other : List ℕ → Process = λ z. with_signal (process_of z) (Some (j, sent_by sends)) in
       let gs : process_of s ≡ other (record_bytes t q) = fs ∙ rw es refl in
       let gr : process_of r ≡ own (record_bytes t₁ p) = fr ∙ rw er refl in
       let here : process (table_of t₂) p ≡ own (record_bytes t p) = own-there paired.0 paired.1 ne v w ∙ gr ∙ ap own (others paired.1 v p ne) in
@@ -163,14 +163,14 @@ module _ (t t₁ t₂ : List ℕ) (p q : ℕ) (r s sent received : List ℕ) (pa
 module _ (t t' : List ℕ) (p q : ℕ) (r : List ℕ) (paired : Paired t p q 3) where
   -- q does not accept, or none of its posted guards is to be kept
   abbrev pub Passes : Type 0
-  Passes = (byte t (record_start q + 7) ≡ 0) ⊎ (kept_match p (own_guard (process_of (record_bytes t p)) (byte (record_bytes t p) 1)) q (posted_list (process_of (record_bytes t q))) ≡ Found.Missing)
+  Passes = (byte t (record_start q + 7) ≡ 0) ⊎ (kept_match p (own_guard (process_of (record_bytes t p)) (byte (record_bytes t p) 1)) q (posted_list (process_of (record_bytes t q))) ≡ None)
 
-  try-passes : (x : Process) (k : ℕ) (y : Process) (accepting : Bool) (found : Found) → (accepting ≡ false) ⊎ (found ≡ Found.Missing) → try x k y accepting found ≡ scan_from x (k + 1)
-  try-passes x k y true (Found.At j) (inl e) = absurd (false≢true (sym e))
-  try-passes x k y true (Found.At j) (inr e) = let z : ◌≡◌ {A = ℕ} 0 1 = cc in absurd (omega arith)
-  try-passes x k y true Found.Missing e = ap (scan_from x) (sym (add-one k))
-  try-passes x k y false (Found.At j) e = ap (scan_from x) (sym (add-one k))
-  try-passes x k y false Found.Missing e = ap (scan_from x) (sym (add-one k))
+  try-passes : (x : Process) (k : ℕ) (y : Process) (accepting : Bool) (found : Option ℕ) → (accepting ≡ false) ⊎ (found ≡ None) → try x k y accepting found ≡ scan_from x (k + 1)
+  try-passes x k y true (Some j) (inl e) = absurd (false≢true (sym e))
+  try-passes x k y true (Some j) (inr e) = let z : ◌≡◌ {A = ℕ} 0 1 = cc in absurd (omega arith)
+  try-passes x k y true None e = ap (scan_from x) (sym (add-one k))
+  try-passes x k y false (Some j) e = ap (scan_from x) (sym (add-one k))
+  try-passes x k y false None e = ap (scan_from x) (sym (add-one k))
 
   pub pass-steps : Passes → Wrote t t' (record_start p) 256 r → process_of r ≡ at_place (process_of (record_bytes t p)) (scan_at (next_enabled (own_list (process_of (record_bytes t p))) (byte (record_bytes t p) 1 + 1))) → Steps t p t' true
   unfolding process_of scan_from
@@ -195,7 +195,7 @@ partner-guard t p q paired from to =
 
 -- what rule 7's search has found, of the bytes of both records
 pub keeps-by : (t : List ℕ) (p q : ℕ) {tag : ℕ} → Paired t p q tag → (byte t (record_start q + 7) ≡ 0 → ⊥) → (j : ℕ)
-    → kept_match p (own_guard (process_of (record_bytes t p)) (byte t (record_start p + 1))) q (posted_list (process_of (record_bytes t q))) ≡ Found.At j → Keeps t p q j
+    → kept_match p (own_guard (process_of (record_bytes t p)) (byte t (record_start p + 1))) q (posted_list (process_of (record_bytes t q))) ≡ Some j → Keeps t p q j
 unfolding process_of
 keeps-by t p q paired accepts j e =
     (ap (λ (y : Process). y.accepting) (record-at t q paired.1) ∙ rw (byte_of t q 7 (omega arith), ne_eqb (byte t (record_start q + 7)) 0 accepts) refl, rw (record-at t p paired.0, record-at t q paired.1) e)

@@ -1,9 +1,9 @@
 -- What is known of a table of which process p can be stepped, read from its bytes.
+use Rattle.std.specs.Prelude.{Some}
 use Prim.Native.Nat.{ℕ, zero, suc, ◌+◌, ◌*◌, ◌^◌, ◌≤◌, ◌<◌}
 use mathlib.Core.Path.{◌≡◌, refl, sym, ap, subst, ◌∙◌}
 use mathlib.Core.Bool.{Bool, true, false, not, ◌&&◌, ◌||◌, false≢true}
 use mathlib.Core.List.{List, [], ◌∷◌}
-use mathlib.Core.Option.{some}
 use native.Mathlib.Nat.{not-suc-le-zero, le_of_suc-le-suc}
 use native.Mathlib.Omega.{arith}
 use lib.ListN.{length, get_or, take, length-take}
@@ -42,7 +42,7 @@ guard-passes test (g ∷ gs) zero h e = (and_parts (test g) (all_guards test gs)
 guard-passes test (g ∷ gs) (suc i) h e = guard-passes test gs i (le_of_suc-le-suc h) (and_parts (test g) (all_guards test gs) e).1
 
 -- at A, T and C a place has an index
-index-of : (tag i j : ℕ) (m : Message) → 2 ≤ tag → tag ≤ 4 → index_of (place_by tag i j m) ≡ some i
+index-of : (tag i j : ℕ) (m : Message) → 2 ≤ tag → tag ≤ 4 → index_of (place_by tag i j m) ≡ Some i
 index-of zero i j m h l = absurd (omega arith)
 index-of (suc zero) i j m h l = absurd (omega arith)
 index-of (suc (suc zero)) i j m h l = refl

@@ -11,7 +11,7 @@ use lib.Seq.{drop-drop}
 use borrow.Author.Tests.{leb-true, leb-false}
 use Rattle.wire.specs.Reading.{word_of, long_of}
 use Rattle.wire.specs.Writing.{word_bytes, long_bytes}
-use Rattle.records.proofs.Back.{word_back, long-back}
+use Rattle.wire.proofs.Back.{word_back, long-back}
 use Rattle.process.specs.Process.{nobody}
 use Rattle.rendezvous.specs.Table.{put, with_head, with_next, with_meeting, with_withdrawal}
 use Rattle.records.specs.Reading.{values, process_of}

@@ -1,5 +1,5 @@
 -- To be believed. A new table in the place of an old one, and whose records a call changes.
-use Rattle.std.specs.Prelude.{◌||◌}
+use Rattle.std.specs.Prelude.{◌||◌, Ok}
 use Rattle.process.specs.Rules.{Effect, Neither, Own, Both, partner_of}
 use Rattle.rendezvous.specs.Table.{process, fresh_table}
 use Rattle.rendezvous.specs.Refusals.{create_verdict}
@@ -8,7 +8,7 @@ use Rattle.inplace.specs.Types.{ℕ, Bool, false, eqb, ProcessTable, Answer, Rep
 
 -- New, where a table t stood. Where it is refused, "No desk is made.": t stays.
 unfoldable pub remake : ProcessTable → ℕ → ℕ → Reply
-remake t n d = if_accepted (create_verdict n d) t (record { answer = Answer.Made; table = fresh_table n d })
+remake t n d = if_accepted (create_verdict n d) t (record { answer = Ok Answer.Made; table = fresh_table n d })
 
 -- r's record is among those that an effect of process p with partner q changes
 abbrev pub changed_by : ℕ → ℕ → Effect → ℕ → Bool

@@ -10,8 +10,7 @@ use Rattle.inplace.specs.Layout.{table_length, count_at, record_start}
 use Rattle.inplace.specs.Reading.{table_of}
 use Rattle.inplace.specs.Calls.{stepped_by}
 use Rattle.inplace.specs.Leaves.{Leaves}
-use Rattle.std.specs.Prelude.{◌%◌, not, ◌&&◌, ◌||◌, cond, ltb, ◌+◌, ◌≤◌, ◌<◌, ◌≡◌}
-use Rattle.alternative.specs.declared.{Found.Found}
+use Rattle.std.specs.Prelude.{◌%◌, not, ◌&&◌, ◌||◌, cond, ltb, ◌+◌, ◌≤◌, ◌<◌, ◌≡◌, Some, Ok}
 use Rattle.alternative.specs.Guards.{kept_match}
 use Rattle.process.specs.Process.{own_guard, posted_list}
 
@@ -29,14 +28,14 @@ Paired t p q tag = (p < 32) × (q < 32) × Ready t p × (byte t (record_start p 
 
 -- a step that is not turned away: it has changed something or nothing
 abbrev pub Steps : List ℕ → ℕ → List ℕ → Bool → Type 0
-Steps t p t' moved = Leaves (stepped (table_of t) p) (stepped_by (table_of t) p) t t' (cond moved (Answer.Moved (process (table_of t') p).place) Answer.Unchanged)
+Steps t p t' moved = Leaves (stepped (table_of t) p) (stepped_by (table_of t) p) t t' (cond moved (Ok (Answer.Moved (process (table_of t') p).place)) (Ok Answer.Unchanged))
 
 -- rule 7's condition, for process p at T: q accepts, and its posted guard j is the one to be kept
 abbrev pub Keeps : List ℕ → ℕ → ℕ → ℕ → Type 0
 Keeps t p q j =
     let x = process (table_of t) p in
     let y = process (table_of t) q in
-    (y.accepting ≡ true) × (kept_match p (own_guard x (byte t (record_start p + index_at))) q (posted_list y) ≡ Found.At j)
+    (y.accepting ≡ true) × (kept_match p (own_guard x (byte t (record_start p + index_at))) q (posted_list y) ≡ Some j)
 
 -- a commit came first, by a place's tag and whether it is accepting
 abbrev pub late_by : ℕ → ℕ → Bool

@@ -1,8 +1,9 @@
 // Refusal 7, on the bytes of a table. It reads tags, indexes, counts, partners and the head, and copies nothing.
-ghost use Rattle.std.specs.Prelude.{◌+◌, ◌*◌, ◌≤◌, ◌≡◌, true, length, leb};
+ghost use Rattle.std.specs.Prelude.{◌+◌, ◌*◌, ◌≤◌, ◌≡◌, cond, length, leb};
 ghost use Rattle.wire.specs.Reading.{byte};
 ghost use Rattle.rendezvous.specs.Table.{open_offers};
 ghost use Rattle.rendezvous.specs.WellFormed.{all_below, fits_at, well_formed};
+ghost use Rattle.rendezvous.specs.Refusals.{process_verdict};
 ghost use Rattle.records.specs.Layout.{record_length};
 ghost use Rattle.inplace.specs.Layout.{table_length, count_at, nap_at};
 ghost use Rattle.inplace.specs.Reading.{head_of, table_of};
@@ -14,14 +15,7 @@ use records::{
     ALTCOUNT_AT, COMMITTED, INDEX_AT, KEPT_AT, PARTNERS_AT, PLACE_AT, RECORD_BYTES, is_open,
     record_fits,
 };
-use rendezvous::{MOST_PROCESSES, totals_fit};
-
-// What is known of the records: whether each fits, and if so, how many have an open offer.
-#[derive(Drop)]
-struct Records {
-    fit: bool,
-    pending: u32,
-}
+use rendezvous::{MOST_PROCESSES, Refusal, totals_fit};
 
 // Whether the kept index at C has a guard in the posted list of the process that the guard names.
 #[tactic(auto, unfolding(crate::specs::Private::kept_fits))]
@@ -37,34 +31,24 @@ fn kept_fits(t: &[u8], r: &[u8]) -> bool
     r[KEPT_AT] < t[b + ALTCOUNT_AT]
 }
 
-// One way out a record: without it the compiler would go across records, byte by byte.
-fn records_in(t: &[u8], n: u8, nap: u8) -> Records
+// How many of the records have an open offer, if each fits. One way out a record: without it the compiler would go across records, byte by byte.
+fn records_in(t: &[u8], n: u8, nap: u8) -> Option<u32>
     requires { (table_length ≤ length t.now) × (n ≤ 32) × (n ≡ byte t.now count_at) × (nap ≡ byte t.now nap_at) }
-    ensures fit { result.fit ≡ all_below (fits_at (table_of t.now)) n }
-    ensures pending { result.fit ≡ true → result.pending ≡ open_offers (table_of t.now) }
+    ensures { result ≡ cond (all_below (fits_at (table_of t.now)) n) (Some (open_offers (table_of t.now))) None }
 {
-    let mut a: usize = layout::HEAD_BYTES;
     // of another width than p, or the compiler would count both in one vector, which goes by way of memory
     let mut pending: u32 = 0;
-    let mut p: u8 = 0;
-    while p < n {
+    for p in 0..n {
+        let a = layout::HEAD_BYTES + RECORD_BYTES * p as usize;
         let r = &t[a..a + RECORD_BYTES];
         if !(record_fits(r, p, n, nap) & kept_fits(t, r)) {
-            return Records {
-                fit: false,
-                pending: 0,
-            };
+            return None;
         }
         if is_open(r) {
-            pending = pending + 1;
+            pending += 1;
         }
-        a = a + RECORD_BYTES;
-        p = p + 1;
     }
-    Records {
-        fit: true,
-        pending: pending,
-    }
+    Some(pending)
 }
 
 // Whether 2 × meetings + withdrawn + open is at most the next ticket.
@@ -93,9 +77,22 @@ pub fn formed_in(t: &[u8]) -> bool
     if (n < 2) | (MOST_PROCESSES < n) | (nap == 0) {
         return false;
     }
-    let records = records_in(t, n, nap);
-    if !records.fit {
-        return false;
+    match records_in(t, n, nap) {
+        Some(pending) => head_fits(t, pending),
+        None => false,
     }
-    head_fits(t, records.pending)
+}
+
+// Refusals 7 and 2, with which every call of process p begins.
+pub fn admitted(t: &[u8], p: u8) -> Result<(), Refusal>
+    requires { table_length ≤ length t.now }
+    ensures { result ≡ process_verdict (table_of t.now) p }
+{
+    if !formed_in(t) {
+        return Err(Refusal::NotWellFormed);
+    }
+    if t[layout::COUNT_AT] <= p {
+        return Err(Refusal::NoSuchProcess);
+    }
+    Ok(())
 }

@@ -1,23 +1,14 @@
 // Words and numbers of 64 bits in a table's bytes.
-ghost use Rattle.std.specs.Prelude.{◌+◌, ◌≤◌, ◌<◌, ◌≡◌, length};
-ghost use Rattle.wire.specs.Reading.{byte, word_of, long_of};
+ghost use Rattle.std.specs.Prelude.{◌+◌, ◌≤◌, ◌≡◌, length};
+ghost use Rattle.wire.specs.Reading.{word_of, long_of};
 ghost use Rattle.records.specs.Layout.{part};
-
-// The byte at `at`, as part of a word.
-fn wide(t: &[u8], at: usize) -> u32
-    requires { at < length t.now }
-    ensures is { result ≡ byte t.now at }
-    ensures small { result < 256 }
-{
-    t[at] as u32
-}
 
 // The word at byte `at`.
 pub fn word_at(t: &[u8], at: usize) -> u32
     requires { at + 4 ≤ length t.now }
     ensures { result ≡ word_of (part t.now at 4) }
 {
-    wide(t, at) + 256 * wide(t, at + 1) + 65536 * wide(t, at + 2) + 16777216 * wide(t, at + 3)
+    u32::from_le_bytes([t[at], t[at + 1], t[at + 2], t[at + 3]])
 }
 
 // The number of 64 bits at byte `at`, the low word first.

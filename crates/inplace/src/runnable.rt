@@ -1,5 +1,5 @@
 // The question which processes can move. It writes nothing.
-ghost use Rattle.std.specs.Prelude.{◌+◌, ◌≤◌, ◌≡◌, cond, length};
+ghost use Rattle.std.specs.Prelude.{◌+◌, ◌≤◌, ◌≡◌, length};
 ghost use Rattle.wire.specs.Reading.{byte};
 ghost use Rattle.process.specs.Rules.{changes, partner_of};
 ghost use Rattle.rendezvous.specs.Table.{process};
@@ -48,26 +48,17 @@ fn moves(t: &[u8], p: u8) -> bool
     !((tag == 0) | (MET <= tag))
 }
 
-// The set of process 0 alone, or of none.
-fn lowest(is: bool) -> ProcessSet
-    ensures { result ≡ cond is 1 0 }
-{
-    if is { 1 } else { 0 }
-}
-
 // The set of processes that a step would change.
-pub fn runnable_in(t: &[u8]) -> Answer
+pub fn runnable_in(t: &[u8]) -> Result<Answer, Refusal>
     requires { table_length ≤ length t.now }
     ensures { result ≡ (runnable (table_of t.now)).answer }
 {
     if !formed_in(t) {
-        return Answer::Refused(Refusal::NotWellFormed);
+        return Err(Refusal::NotWellFormed);
     }
     let mut set: ProcessSet = 0;
-    let mut p: u8 = t[layout::COUNT_AT];
-    while 0 < p {
-        p = p - 1;
-        set = set * 2 + lowest(moves(t, p));
+    for p in (0..t[layout::COUNT_AT]).rev() {
+        set = set * 2 + ProcessSet::from(moves(t, p));
     }
-    Answer::Runnable(set)
+    Ok(Answer::Runnable(set))
 }

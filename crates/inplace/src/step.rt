@@ -7,10 +7,9 @@ ghost use Rattle.inplace.specs.Calls.{stepped_by};
 ghost use Rattle.inplace.specs.Leaves.{Leaves};
 ghost use Rattle.inplace.specs.Private.{Ready, Paired, Steps, Keeps};
 
-use crate::form::formed_in;
+use crate::form::admitted;
 use crate::layout;
 use crate::numbers::{long_at, word_at};
-use alternative::Found;
 use records::{
     ACCEPTING_AT, COMMITTED, INDEX_AT, KEPT_AT, OWN_AT, PARTNERS_AT, PLACE_AT, RECORD_BYTES,
     SCANNING, TICKET_AT, closed, committed, kept_in, met, own_rule, place_in, received_bytes,
@@ -38,8 +37,8 @@ fn commit_in(t: &mut [u8], p: u8, q: u8, kept: u8)
 {
     let a = layout::HEAD_BYTES + RECORD_BYTES * p as usize;
     let b = layout::HEAD_BYTES + RECORD_BYTES * q as usize;
-    let meetings = long_bytes(long_at(t, layout::MEETINGS_AT) + 1);
-    put_bytes(t, layout::MEETINGS_AT, &meetings);
+    let meetings = long_at(t, layout::MEETINGS_AT) + 1;
+    put_bytes(t, layout::MEETINGS_AT, &long_bytes(meetings));
     closed(&mut t[b..b + RECORD_BYTES]);
     committed(&mut t[a..a + RECORD_BYTES], kept);
 }
@@ -53,12 +52,10 @@ fn try_in(t: &mut [u8], p: u8, q: u8) -> bool
     let b = layout::HEAD_BYTES + RECORD_BYTES * q as usize;
     let i = t[a + INDEX_AT];
     if t[b + ACCEPTING_AT] != 0 {
-        match kept_in(&t[a..a + RECORD_BYTES], &t[b..b + RECORD_BYTES], p, q, i) {
-            Found::At(kept) => {
-                commit_in(t, p, q, kept);
-                return true;
-            }
-            Found::Missing => {}
+        let kept = kept_in(&t[a..a + RECORD_BYTES], &t[b..b + RECORD_BYTES], p, q, i);
+        if let Some(kept) = kept {
+            commit_in(t, p, q, kept);
+            return true;
         }
     }
     scanned(&mut t[a..a + RECORD_BYTES], i + 1);
@@ -104,19 +101,14 @@ fn stepped_in(t: &mut [u8], p: u8) -> bool
 }
 
 // Moves process p by one rule, and says its new place or that nothing changed.
-pub fn step_in(t: &mut [u8], p: u8) -> Answer
+pub fn step_in(t: &mut [u8], p: u8) -> Result<Answer, Refusal>
     requires { table_length ≤ length t.old }
     ensures { Leaves (step (table_of t.old) p) (stepped_by (table_of t.old) p) t.old t.new result }
 {
-    if !formed_in(t) {
-        return Answer::Refused(Refusal::NotWellFormed);
-    }
-    if t[layout::COUNT_AT] <= p {
-        return Answer::Refused(Refusal::NoSuchProcess);
-    }
+    admitted(t, p)?;
     if !stepped_in(t, p) {
-        return Answer::Unchanged;
+        return Ok(Answer::Unchanged);
     }
     let a = layout::HEAD_BYTES + RECORD_BYTES * p as usize;
-    Answer::Moved(place_in(&t[a..a + RECORD_BYTES]))
+    Ok(Answer::Moved(place_in(&t[a..a + RECORD_BYTES])))
 }

@@ -6,7 +6,7 @@ ghost use Rattle.inplace.specs.Reading.{table_of};
 ghost use Rattle.inplace.specs.Leaves.{Leaves};
 ghost use Rattle.inplace.specs.Private.{Ready, late_by};
 
-use crate::form::formed_in;
+use crate::form::admitted;
 use crate::layout;
 use crate::numbers::long_at;
 use records::{ACCEPTING_AT, COMMITTED, MET, PLACE_AT, RECORD_BYTES, SHOWING, WAITING, given_up};
@@ -21,34 +21,29 @@ fn is_late(tag: u8, accepting: u8) -> bool
 }
 
 // A withdrawal that 7 and 2 do not turn away.
-fn given_up_in(t: &mut [u8], p: u8) -> Answer
+fn given_up_in(t: &mut [u8], p: u8) -> Result<Answer, Refusal>
     requires { (p < 32) × Ready t.old p }
     ensures { Leaves (withdraw (table_of t.old) p) (λ r. eqb r p) t.old t.new result }
 {
     let a = layout::HEAD_BYTES + RECORD_BYTES * p as usize;
     let tag = t[a + PLACE_AT];
     if (tag == 0) | (MET <= tag) {
-        return Answer::Refused(Refusal::NothingToWithdraw);
+        return Err(Refusal::NothingToWithdraw);
     }
     if is_late(tag, t[a + ACCEPTING_AT]) {
-        return Answer::TooLate;
+        return Ok(Answer::TooLate);
     }
-    let withdrawn = long_bytes(long_at(t, layout::WITHDRAWN_AT) + 1);
-    put_bytes(t, layout::WITHDRAWN_AT, &withdrawn);
+    let withdrawn = long_at(t, layout::WITHDRAWN_AT) + 1;
+    put_bytes(t, layout::WITHDRAWN_AT, &long_bytes(withdrawn));
     given_up(&mut t[a..a + RECORD_BYTES]);
-    Answer::Withdrawn
+    Ok(Answer::Withdrawn)
 }
 
 // Withdraws the offer of process p, if no commit came first.
-pub fn withdraw_in(t: &mut [u8], p: u8) -> Answer
+pub fn withdraw_in(t: &mut [u8], p: u8) -> Result<Answer, Refusal>
     requires { table_length ≤ length t.old }
     ensures { Leaves (withdraw (table_of t.old) p) (λ r. eqb r p) t.old t.new result }
 {
-    if !formed_in(t) {
-        return Answer::Refused(Refusal::NotWellFormed);
-    }
-    if t[layout::COUNT_AT] <= p {
-        return Answer::Refused(Refusal::NoSuchProcess);
-    }
+    admitted(t, p)?;
     given_up_in(t, p)
 }

@@ -5,7 +5,8 @@ ghost use Rattle.std.specs.Prelude.{◌≤◌, ◌≡◌, take};
 ghost use Rattle.rendezvous.specs.Calls.{offer};
 
 use alternative::{Action, Guard, Message};
-use rendezvous::{Answer, ProcessTable, Reply};
+use rendezvous::{Answer, ProcessTable, Refusal, Reply};
+use std::io;
 use std::io::Stdout;
 
 // Offers the first guards of an array, lent as a slice.
@@ -28,52 +29,34 @@ fn nine_guards() -> [Guard; 9] {
     [guard; 9]
 }
 
-fn print(text: &[u8], stdout: Stdout) {
-    let _ = stdout.write_all(text);
-}
-
-fn print_decimal(number: u64, stdout: Stdout) {
-    let _ = stdout.print(number);
-}
-
-fn print_answer(answer: Answer, stdout: Stdout) {
+fn print_answer(answer: Result<Answer, Refusal>, stdout: Stdout) -> io::Result<()> {
     match answer {
-        Answer::Offered(ticket) => {
-            print(b"ticket ", stdout);
-            print_decimal(ticket.0 as u64, stdout);
-        }
-        Answer::Refused(refusal) => {
-            print(b"refused by ", stdout);
-            print_decimal(refusal.number() as u64, stdout);
-        }
-        Answer::Made => print(b"made", stdout),
-        Answer::Moved(_) => print(b"moved", stdout),
-        Answer::Unchanged => print(b"unchanged", stdout),
-        Answer::Collected(_, _, _) => print(b"collected", stdout),
-        Answer::Withdrawn => print(b"withdrawn", stdout),
-        Answer::TooLate => print(b"too late", stdout),
-        Answer::Runnable(_) => print(b"runnable", stdout),
+        Ok(Answer::Offered(ticket)) => print!(stdout; "ticket {}", ticket.0),
+        Err(refusal) => print!(stdout; "refused by {}", refusal.number()),
+        Ok(Answer::Made) => print!(stdout; "made"),
+        Ok(Answer::Moved(_)) => print!(stdout; "moved"),
+        Ok(Answer::Unchanged) => print!(stdout; "unchanged"),
+        Ok(Answer::Collected(_, _, _)) => print!(stdout; "collected"),
+        Ok(Answer::Withdrawn) => print!(stdout; "withdrawn"),
+        Ok(Answer::TooLate) => print!(stdout; "too late"),
+        Ok(Answer::Runnable(_)) => print!(stdout; "runnable"),
     }
 }
 
-// Offers so many guards for process p, and prints what is answered.
+// Offers so many guards for process p, and prints what is answered. What cannot be printed is left out.
 fn offered(table: ProcessTable, p: u8, count: usize, stdout: Stdout) -> ProcessTable
     requires { count ≤ 9 }
 {
     let reply = lend(table, p, nine_guards(), count);
-    print(b"guards ", stdout);
-    print_decimal(count as u64, stdout);
-    print(b": ", stdout);
-    let answer = reply.answer;
-    print_answer(answer, stdout);
-    print(b"\n", stdout);
+    let _ = print!(stdout; "guards {count}: ");
+    let _ = print_answer(reply.answer, stdout);
+    let _ = println!(stdout; "");
     reply.table
 }
 
 fn main(rt: HostRuntime) {
     let stdout = rt.stdout();
-    let made = ProcessTable::create(4, 1);
-    let fresh = made.table;
+    let fresh = ProcessTable::create(4, 1).table;
     let one = offered(offered(fresh, 0, 0, stdout), 0, 1, stdout);
     offered(offered(one, 1, 8, stdout), 2, 9, stdout);
 }

@@ -1,72 +1,36 @@
 // What a program makes of the operating system's answers.
-ghost use Rattle.std.specs.Prelude.{◌≡◌, IfOk, OnErr, pos, negsuc, length};
-ghost use Rattle.std.specs.Io.{ReadsAtMost};
-ghost use Rattle.passes.specs.Turns.{Moved, count, after_read, after_write, is_going, is_ended};
+ghost use Rattle.std.specs.Prelude.{◌≡◌, IsOk, is_ok};
+ghost use Rattle.passes.specs.Turns.{answer, after_read, after_write, AtEnd};
 
-use crate::Status;
+use crate::Failure;
 use std::io;
 
-// What a read into this buffer answered, as a number: -1 where it failed, or how many bytes it brought.
-pub fn answered(read: io::Result<usize>, buffer: &[u8]) -> isize
-    requires { ReadsAtMost read buffer.now }
-    ensures failed { OnErr read (result ≡ negsuc 0) }
-    ensures brought { IfOk read (λ n. result ≡ pos n) }
-    ensures moved { Moved (length buffer.now) result }
+// How many bytes a read brought: none where the input has ended.
+pub fn after_read(got: io::Result<usize>) -> Result<Option<usize>, Failure>
+    ensures { result ≡ after_read (answer got) }
 {
-    match read {
-        Ok(n) => n as isize,
-        Err(_) => -1,
+    match got {
+        Ok(0) => Ok(None),
+        Ok(count) => Ok(Some(count)),
+        Err(_) => Err(Failure::Unreadable),
     }
-}
-
-// By what a read answered.
-pub fn after_read(got: isize) -> Status
-    ensures { result ≡ after_read got }
-{
-    if got < 0 {
-        return Status::Unreadable;
-    }
-    if got == 0 {
-        return Status::Ended;
-    }
-    Status::Going
-}
-
-// How many bytes a read brought; one that failed has brought none.
-pub fn count(got: isize) -> usize
-    ensures { result ≡ count got }
-{
-    if got > 0 { got as usize } else { 0 }
 }
 
 // By whether all was written.
-pub fn after_write(status: Status, written: bool) -> Status
-    ensures { result ≡ after_write status written }
+pub fn after_write(took: io::Result<()>) -> Result<(), Failure>
+    ensures { result ≡ after_write (is_ok took) }
 {
-    if written { status } else { Status::Unwritable }
+    took.map_err(|_| Failure::Unwritable)
 }
 
-pub fn goes_on(status: Status) -> bool
-    ensures { result ≡ is_going status }
+// Where the input has ended, what the end prints is written; where reading has failed, nothing is.
+pub fn at_end<F: FnOnce() -> io::Result<()>>(
+    read: Result<(), Failure>,
+    write: F,
+) -> Result<(), Failure>
+    requires { IsOk read → F.pre write }
+    ensures { AtEnd (F.post write) read result }
 {
-    match status {
-        Status::Going => true,
-        Status::Ended => false,
-        Status::Unreadable => false,
-        Status::Unwritable => false,
-        Status::Endless => false,
-    }
-}
-
-// Only then is what the end prints written.
-pub fn has_ended(status: Status) -> bool
-    ensures { result ≡ is_ended status }
-{
-    match status {
-        Status::Ended => true,
-        Status::Going => false,
-        Status::Unreadable => false,
-        Status::Unwritable => false,
-        Status::Endless => false,
-    }
+    read?;
+    after_write(write())
 }

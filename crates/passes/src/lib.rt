@@ -6,30 +6,20 @@
 // bytes, which its caller is proved to meet.
 #![tactic(auto)]
 
-use script::Session;
-
 mod answers;
 mod reading;
 mod telling;
 mod writing;
 
-pub use answers::{after_write, has_ended};
-pub use reading::{input_buffer, output_buffer, read_all};
+pub use answers::at_end;
+pub use reading::{INPUT_BYTES, OUTPUT_BYTES, read_all};
 pub use telling::tell;
 pub use writing::write_text;
 
-// How a program stands: it goes on, the input has ended, a read or a write has failed, or there were too many reads.
+// Why a program stops before it has done all: a read or a write has failed, or there were too many reads.
 #[derive(Clone, Copy)]
-pub enum Status {
-    Going,
-    Ended,
+pub enum Failure {
     Unreadable,
     Unwritable,
     Endless,
-}
-
-#[derive(Clone, Copy)]
-pub struct Progress {
-    pub status: Status,
-    pub session: Session,
 }

@@ -4,29 +4,18 @@ ghost use Rattle.text.specs.Writing.{line_length};
 ghost use Rattle.script.specs.Feeding.{state_held, fed};
 ghost use Rattle.passes.specs.Turns.{OnePass, AllPasses};
 
-use crate::answers::{after_read, after_write, answered, count, goes_on};
-use crate::{Progress, Status};
+use crate::Failure;
+use crate::answers::{after_read, after_write};
 use script::{Fed, Session};
+use std::io;
 use std::io::{Read, Stdin, Stdout};
 use text::LINE_BYTES;
 
 // The most that a read brings.
-const INPUT_BYTES: usize = 4096;
+pub const INPUT_BYTES: usize = 4096;
 
 // Room for what these print: each of them may end a line.
-const OUTPUT_BYTES: usize = INPUT_BYTES * LINE_BYTES;
-
-pub fn input_buffer() -> [u8; INPUT_BYTES]
-    ensures { 4096 ≡ length result }
-{
-    [0; INPUT_BYTES]
-}
-
-pub fn output_buffer() -> [u8; OUTPUT_BYTES]
-    ensures { 4096 * line_length ≡ length result }
-{
-    [0; OUTPUT_BYTES]
-}
+pub const OUTPUT_BYTES: usize = INPUT_BYTES * LINE_BYTES;
 
 // Feeds all of a piece, where the output has room for what it prints.
 fn feed_all(session: Session, piece: &[u8], output: &mut [u8]) -> Fed
@@ -40,81 +29,60 @@ fn feed_all(session: Session, piece: &[u8], output: &mut [u8]) -> Fed
 
 // Writes what a piece prints to a session, in a program that prints it, and nothing else.
 fn write_printed(
-    session: Session,
+    session: &Session,
     piece: &[u8],
     printed: &[u8],
     prints: bool,
     stdout: Stdout,
-) -> bool
+) -> io::Result<()>
     requires prints { prints ≡ true }
-    requires printed_value { printed.now ≡ (fed (state_held session) piece.now).prints }
+    requires printed_value { printed.now ≡ (fed (state_held session.now) piece.now).prints }
 {
-    stdout.write_all(printed).is_ok()
+    stdout.write_all(printed)
 }
 
-// One read, and what it makes the session print. A program that does not print that throws it away, and nothing is left to write.
+// One read, and what it makes the session print; whether the program goes on. A program that does not print that throws it away: `prints` is
+// a flag, and `stdout` no Option, since `OnePass` and the edit `written_where_thrown_away` speak of a stream where nothing is printed.
 fn read_once(
-    session: Session,
+    session: &mut Session,
     input: &mut [u8],
     output: &mut [u8],
     prints: bool,
     mut stdin: Stdin,
     stdout: Stdout,
-) -> Progress
+) -> Result<bool, Failure>
     requires { line_length * length input.old ≤ length output.old }
-    ensures { OnePass prints (state_held session) input.new result }
+    ensures { OnePass prints (state_held session.old) input.new (state_held session.new) result }
 {
-    let read = stdin.read(input);
-    let got = answered(read, input);
-    let status = after_read(got);
-    if !goes_on(status) {
-        return Progress {
-            status: status,
-            session: session,
-        };
-    }
-    let count = count(got);
-    let fed = feed_all(session, &input[..count], output);
-    let filled = fed.filled;
-    let after = fed.session;
-    let written = if prints {
-        write_printed(session, &input[..count], &output[..filled], prints, stdout)
-    } else {
-        true
+    let Some(count) = after_read(stdin.read(input))? else {
+        return Ok(false);
     };
-    let next = after_write(status, written);
-    Progress {
-        status: next,
-        session: after,
+    let piece = &input[..count];
+    let before = *session;
+    let fed = feed_all(before, piece, output);
+    *session = fed.session;
+    if prints {
+        after_write(write_printed(&before, piece, &output[..fed.filled], prints, stdout))?;
     }
+    Ok(true)
 }
 
-// Reads to the end of the input, or to the first failure. The count of reads falls, so that the loop ends; no input has as many.
+// Reads to the end of the input, or to the first failure. No input has as many pieces as are counted here.
 pub fn read_all(
-    session: Session,
+    session: &mut Session,
     input: &mut [u8],
     output: &mut [u8],
     prints: bool,
     stdin: Stdin,
     stdout: Stdout,
-) -> Progress
+) -> Result<(), Failure>
     requires { line_length * length input.old ≤ length output.old }
-    ensures { AllPasses prints (state_held session) result }
+    ensures { AllPasses prints (state_held session.old) (state_held session.new) result }
 {
-    let mut now = session;
-    let mut left: u64 = 18446744073709551615;
-    while 0 < left {
-        let next = read_once(now, input, output, prints, stdin, stdout);
-        let status = next.status;
-        if !goes_on(status) {
-            return next;
+    for _ in 0..u64::MAX {
+        if !read_once(session, input, output, prints, stdin, stdout)? {
+            return Ok(());
         }
-        let after = next.session;
-        now = after;
-        left = left - 1;
     }
-    Progress {
-        status: Status::Endless,
-        session: now,
-    }
+    Err(Failure::Endless)
 }

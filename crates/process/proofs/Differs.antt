@@ -1,4 +1,5 @@
 -- A rule that changes anything changes the place of the process that steps.
+use Rattle.std.specs.Prelude.{Option, Some, None}
 use Prim.Native.Nat.{ℕ, suc, ◌+◌, ◌≤◌}
 use Prim.Native.Char.{code}
 use mathlib.Core.Path.{◌≡◌, refl, sym, ap}
@@ -8,9 +9,10 @@ use native.Mathlib.Omega.{arith}
 use lib.ListN.{drop}
 use lib.Dec.{ltb}
 use Rattle.alternative.specs.Guards.{first_from, kept_match, next_enabled}
-use Rattle.process.specs.Types.{Guard, Found, Signal, Place, State, Process}
+use Rattle.process.specs.Types.{Guard, Place, State, Process}
 use Rattle.process.specs.Process.{letter_of, state_of, own_list, posted_list, own_guard}
 use Rattle.process.specs.Rules.{Effect, Neither, Own, Both, scan_at, scan_from, sleep_at, scan, try, hand_over, absorb, rule_at, rule}
+use Rattle.alternative.specs.declared.Message.{Message}
 
 abbrev pub Differs : Place → Effect → Type 0
 Differs place Neither = Unit {0}
@@ -18,12 +20,12 @@ Differs place (Own x) = x.place ≡ place → ⊥
 Differs place (Both x y) = x.place ≡ place → ⊥
 
 -- a search that starts at k finds nothing before k
-found_from : (test : Guard → Bool) (gs : List Guard) (k i : ℕ) → first_from test gs k ≡ Found.At i → k ≤ i
+found_from : (test : Guard → Bool) (gs : List Guard) (k i : ℕ) → first_from test gs k ≡ Some i → k ≤ i
 unfolding first_from
 found_from test [] k i e = let z : ◌≡◌ {A = ℕ} 0 1 = cc in absurd (omega arith)
 found_from test (g ∷ gs) k i e = go (test g) (found_from test gs (suc k) i) e
   where
-    go : (b : Bool) → (first_from test gs (suc k) ≡ Found.At i → suc k ≤ i) → cond b (Found.At k) (first_from test gs (suc k)) ≡ Found.At i → k ≤ i
+    go : (b : Bool) → (first_from test gs (suc k) ≡ Some i → suc k ≤ i) → cond b (Some k) (first_from test gs (suc k)) ≡ Some i → k ≤ i
     go true h f = let z : k ≡ i = cc in omega arith
     go false h f = let l = h f in omega arith
 
@@ -31,9 +33,9 @@ from-differs : (x : Process) (k : ℕ) (place : Place) → ((i : ℕ) → k ≤ 
 unfolding scan_from next_enabled
 from-differs x k place h g = go (next_enabled (own_list x) k) refl
   where
-    go : (f : Found) → next_enabled (own_list x) k ≡ f → scan_at f ≡ place → ⊥
-    go (Found.At i) e = h i (found_from (λ g. g.enabled) (drop k (own_list x)) k i e)
-    go Found.Missing e = g
+    go : (f : Option ℕ) → next_enabled (own_list x) k ≡ f → scan_at f ≡ place → ⊥
+    go (Some i) e = h i (found_from (λ g. g.enabled) (drop k (own_list x)) k i e)
+    go None e = g
 
 after-differs : (x : Process) (i : ℕ) → Differs (Place.Scanning i) (scan_from x (suc i))
 after-differs x i = from-differs x (suc i) (Place.Scanning i) (λ j h e. let z : j ≡ i = cc in omega arith) (λ e. let z : code "P" ≡ code "A" = ap letter_of e in omega arith)
@@ -52,15 +54,15 @@ scan-differs x i State.Waiting older = λ e. let z : code "T" ≡ code "A" = ap 
 scan-differs x i State.Alt true = λ e. let z : code "S" ≡ code "A" = ap letter_of e in omega arith
 scan-differs x i State.Alt false = tt
 
-try-differs : (x : Process) (i : ℕ) (y : Process) (accepting : Bool) (found : Found) → Differs (Place.Trying i) (try x i y accepting found)
-try-differs x i y true (Found.At j) = λ e. let z : code "C" ≡ code "T" = ap letter_of e in omega arith
-try-differs x i y true Found.Missing = other_differs x (suc i) (Place.Trying i) (omega arith) (omega arith)
-try-differs x i y false (Found.At j) = other_differs x (suc i) (Place.Trying i) (omega arith) (omega arith)
-try-differs x i y false Found.Missing = other_differs x (suc i) (Place.Trying i) (omega arith) (omega arith)
+try-differs : (x : Process) (i : ℕ) (y : Process) (accepting : Bool) (found : Option ℕ) → Differs (Place.Trying i) (try x i y accepting found)
+try-differs x i y true (Some j) = λ e. let z : code "C" ≡ code "T" = ap letter_of e in omega arith
+try-differs x i y true None = other_differs x (suc i) (Place.Trying i) (omega arith) (omega arith)
+try-differs x i y false (Some j) = other_differs x (suc i) (Place.Trying i) (omega arith) (omega arith)
+try-differs x i y false None = other_differs x (suc i) (Place.Trying i) (omega arith) (omega arith)
 
-absorb-differs : (x : Process) (s : Signal) → Differs Place.Waiting (absorb x s)
-absorb-differs x (Signal.Present j m) = λ e. let z : code "M" ≡ code "W" = ap letter_of e in omega arith
-absorb-differs x Signal.Absent = tt
+absorb-differs : (x : Process) (s : Option (ℕ × Message)) → Differs Place.Waiting (absorb x s)
+absorb-differs x (Some (j, m)) = λ e. let z : code "M" ≡ code "W" = ap letter_of e in omega arith
+absorb-differs x None = tt
 
 at-differs : (d p : ℕ) (x : Process) (q : ℕ) (y : Process) (place : Place) → Differs place (rule_at d p x q y place)
 unfolding hand_over

@@ -1,14 +1,17 @@
 -- Which rules change anything: exactly those other than 6, 14 and 15.
+use Rattle.std.specs.Prelude.{Option, Some, None}
 use Prim.Native.Nat.{ℕ, ◌+◌}
 use mathlib.Core.Path.{◌≡◌, refl, sym, ap, ◌∙◌}
 use mathlib.Core.Bool.{Bool, true, false, not, ◌||◌}
 use lib.Dec.{eqb, ltb, leb}
 use borrow.Author.Tests.{ltb-true, ltb-false, le-leb, lt-leb}
 use Rattle.alternative.specs.Guards.{kept_match}
-use Rattle.process.specs.Types.{Found, Signal, Place, State, Process}
+use Rattle.process.specs.Types.{Place, State, Process}
 use Rattle.process.specs.Process.{state_of, posted_list, own_guard}
 use Rattle.process.specs.Rules.{scan_from, sleep_at, scan, try, hand_over, absorb, rule_at, rule, changes}
-use Rattle.process.specs.Private.{held_by, is_present, changes_at}
+use Rattle.process.specs.Private.{held_by, changes_at}
+use Rattle.std.specs.Prelude.{is_some}
+use Rattle.alternative.specs.declared.Message.{Message}
 
 -- document 01's number of the rule that applies
 abbrev scan_number : State → Bool → ℕ
@@ -18,15 +21,15 @@ scan_number State.Waiting older = 4
 scan_number State.Alt true = 5
 scan_number State.Alt false = 6
 
-abbrev try_number : Bool → Found → ℕ
-try_number true (Found.At j) = 7
-try_number true Found.Missing = 8
-try_number false (Found.At j) = 8
-try_number false Found.Missing = 8
+abbrev try_number : Bool → Option ℕ → ℕ
+try_number true (Some j) = 7
+try_number true None = 8
+try_number false (Some j) = 8
+try_number false None = 8
 
-abbrev absorb_number : Signal → ℕ
-absorb_number (Signal.Present j m) = 13
-absorb_number Signal.Absent = 14
+abbrev absorb_number : Option (ℕ × Message) → ℕ
+absorb_number (Some (j, m)) = 13
+absorb_number None = 14
 
 abbrev number_at : ℕ → Process → ℕ → Process → Place → ℕ
 number_at p x q y Place.Entering = 1
@@ -58,16 +61,16 @@ scan-number x i State.Waiting older = refl
 scan-number x i State.Alt true = refl
 scan-number x i State.Alt false = refl
 
-try-number : (x : Process) (i : ℕ) (y : Process) (accepting : Bool) (found : Found) → changes (try x i y accepting found) ≡ Moving (try_number accepting found)
+try-number : (x : Process) (i : ℕ) (y : Process) (accepting : Bool) (found : Option ℕ) → changes (try x i y accepting found) ≡ Moving (try_number accepting found)
 unfolding scan_from
-try-number x i y true (Found.At j) = refl
-try-number x i y true Found.Missing = refl
-try-number x i y false (Found.At j) = refl
-try-number x i y false Found.Missing = refl
+try-number x i y true (Some j) = refl
+try-number x i y true None = refl
+try-number x i y false (Some j) = refl
+try-number x i y false None = refl
 
-absorb-number : (x : Process) (s : Signal) → changes (absorb x s) ≡ Moving (absorb_number s)
-absorb-number x (Signal.Present j m) = refl
-absorb-number x Signal.Absent = refl
+absorb-number : (x : Process) (s : Option (ℕ × Message)) → changes (absorb x s) ≡ Moving (absorb_number s)
+absorb-number x (Some (j, m)) = refl
+absorb-number x None = refl
 
 -- the law: by document 01's numbers
 pub moving-rules : (d p : ℕ) (x : Process) (q : ℕ) (y : Process) (place : Place) → changes (rule_at d p x q y place) ≡ Moving (number_at p x q y place)
@@ -96,17 +99,17 @@ held-scan x i State.Alt a b = go (ltb b a) refl
     go true e = rw (lt-leb a b (ltb-true b a e))
     go false e = rw (le-leb a b (ltb-false b a e))
 
-present-absorb : (x : Process) (s : Signal) → is_present s ≡ changes (absorb x s)
-present-absorb x (Signal.Present j m) = refl
-present-absorb x Signal.Absent = refl
+present-absorb : (x : Process) (s : Option (ℕ × Message)) → is_some s ≡ changes (absorb x s)
+present-absorb x (Some (j, m)) = refl
+present-absorb x None = refl
 
 -- rules 7 and 8 always change something
-pub try-changes : (x : Process) (i : ℕ) (y : Process) (accepting : Bool) (found : Found) → changes (try x i y accepting found) ≡ true
+pub try-changes : (x : Process) (i : ℕ) (y : Process) (accepting : Bool) (found : Option ℕ) → changes (try x i y accepting found) ≡ true
 unfolding scan_from
-try-changes x i y true (Found.At j) = refl
-try-changes x i y true Found.Missing = refl
-try-changes x i y false (Found.At j) = refl
-try-changes x i y false Found.Missing = refl
+try-changes x i y true (Some j) = refl
+try-changes x i y true None = refl
+try-changes x i y false (Some j) = refl
+try-changes x i y false None = refl
 
 changes-at : (d p : ℕ) (x : Process) (q : ℕ) (y : Process) (place : Place) → changes_at x y place ≡ changes (rule_at d p x q y place)
 unfolding scan_from hand_over

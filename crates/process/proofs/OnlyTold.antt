@@ -1,20 +1,21 @@
 -- Who can change whom: of the partner's record a rule changes the wake count and the signal alone; and whom a record that fits can name.
+use Rattle.std.specs.Prelude.{Option, Some, None}
 use Prim.Native.Nat.{ℕ, zero, suc, ◌+◌, ◌<◌}
 use mathlib.Core.Path.{◌≡◌, refl, ap}
 use mathlib.Core.Bool.{Bool, true, false, not, ◌&&◌}
 use mathlib.Core.List.{List, [], ◌∷◌}
-use mathlib.Core.Option.{Option, some, none}
 use lib.ListN.{get_or}
 use lib.Dec.{ltb, leb, eqb}
 use borrow.Author.Tests.{ltb-true}
 use Rattle.alternative.specs.Guards.{most_guards, blank, kept_match}
 use Rattle.alternative.proofs.Tests.{and_parts}
-use Rattle.process.specs.Types.{Guard, Found, Signal, Place, State, Process}
+use Rattle.process.specs.Types.{Guard, Place, State, Process}
 use Rattle.process.specs.Process.{state_of, index_of, own_list, posted_list, own_guard}
 use Rattle.process.specs.Rules.{Effect, Neither, Own, Both, changed, scan_from, sleep_at, scan, try, hand_over, absorb, rule_at, rule, named_by, partner_of}
 use Rattle.process.specs.Fits.{all_guards, partner_fits, list_fits, signal_fits, process_fits}
 use Rattle.process.specs.InCode.{committed_at}
 use Rattle.process.proofs.PlaceCases.{both-carried}
+use Rattle.alternative.specs.declared.Message.{Message}
 
 abbrev pub OnlyTold : Process → Effect → Type 0
 OnlyTold y Neither = Unit {0}
@@ -34,16 +35,16 @@ scan-only-told x i y State.Waiting older = tt
 scan-only-told x i y State.Alt true = tt
 scan-only-told x i y State.Alt false = tt
 
-try-only-told : (x : Process) (i : ℕ) (y : Process) (accepting : Bool) (found : Found) → OnlyTold y (try x i y accepting found)
+try-only-told : (x : Process) (i : ℕ) (y : Process) (accepting : Bool) (found : Option ℕ) → OnlyTold y (try x i y accepting found)
 unfolding scan_from
-try-only-told x i y true (Found.At j) = refl
-try-only-told x i y true Found.Missing = tt
-try-only-told x i y false (Found.At j) = tt
-try-only-told x i y false Found.Missing = tt
+try-only-told x i y true (Some j) = refl
+try-only-told x i y true None = tt
+try-only-told x i y false (Some j) = tt
+try-only-told x i y false None = tt
 
-absorb-only-told : (x y : Process) (s : Signal) → OnlyTold y (absorb x s)
-absorb-only-told x y (Signal.Present j m) = tt
-absorb-only-told x y Signal.Absent = tt
+absorb-only-told : (x y : Process) (s : Option (ℕ × Message)) → OnlyTold y (absorb x s)
+absorb-only-told x y (Some (j, m)) = tt
+absorb-only-told x y None = tt
 
 at-only-told : (d p : ℕ) (x : Process) (q : ℕ) (y : Process) (place : Place) → OnlyTold y (rule_at d p x q y place)
 unfolding scan_from hand_over
@@ -85,7 +86,7 @@ unfolding process_fits list_fits
 partner-below n d p x posted e h = go (index_of x.place)
   where
     go : (index : Option ℕ) → named_by x index < n
-    go none = h
-    go (some i) =
+    go None = h
+    go (Some i) =
         let own = (and_parts (leb x.count most_guards) (all_guards (partner_fits n p) (own_list x)) (and_parts (list_fits n p x.count x.guards) _ e).0).1 in
         named-below n p (own_list x) i h own

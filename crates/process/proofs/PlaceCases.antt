@@ -1,7 +1,7 @@
 -- By what a place carries: what holds of what is said of each case holds of what is said of the place.
+use Rattle.std.specs.Prelude.{Some}
 use Prim.Native.Nat.{ℕ}
 use mathlib.Core.Path.{◌≡◌, refl}
-use mathlib.Core.Option.{some}
 use Rattle.alternative.specs.declared.Message.{Message}
 use Rattle.process.specs.declared.Place.{Place}
 use Rattle.process.specs.Process.{carried, index_of, if_met, if_committed}
@@ -9,7 +9,7 @@ use Rattle.process.specs.Process.{carried, index_of, if_met, if_committed}
 -- of two readings of one place
 module _ {ℓ κ} {A : Type ℓ} {B : Type κ} (R : A → B → Type 0) (other : A) (other' : B) where
   pub both-carried : (index : ℕ → A) (index' : ℕ → B) (kept : ℕ → ℕ → A) (kept' : ℕ → ℕ → B) (steps : ℕ → A) (steps' : ℕ → B) (outcome : ℕ → Message → A) (outcome' : ℕ → Message → B) (place : Place)
-      → R other other' → ((i : ℕ) → index_of place ≡ some i → R (index i) (index' i)) → ((i j : ℕ) → place ≡ Place.Committed i j → R (kept i j) (kept' i j))
+      → R other other' → ((i : ℕ) → index_of place ≡ Some i → R (index i) (index' i)) → ((i j : ℕ) → place ≡ Place.Committed i j → R (kept i j) (kept' i j))
       → ((s : ℕ) → place ≡ Place.Asleep s → R (steps s) (steps' s)) → ((i : ℕ) (m : Message) → place ≡ Place.Met i m → R (outcome i m) (outcome' i m))
       → R (carried other index kept steps outcome place) (carried other' index' kept' steps' outcome' place)
   both-carried a a' b b' c c' d d' Place.Idle o h k n q = o
@@ -25,7 +25,7 @@ module _ {ℓ κ} {A : Type ℓ} {B : Type κ} (R : A → B → Type 0) (other :
   both-carried a a' b b' c c' d d' (Place.Met i m) o h k n q = q i m refl
 
 module _ {ℓ} {A : Type ℓ} (P : A → Type 0) (other : A) where
-  pub by-carried : (index : ℕ → A) (kept : ℕ → ℕ → A) (steps : ℕ → A) (outcome : ℕ → Message → A) (place : Place) → P other → ((i : ℕ) → index_of place ≡ some i → P (index i))
+  pub by-carried : (index : ℕ → A) (kept : ℕ → ℕ → A) (steps : ℕ → A) (outcome : ℕ → Message → A) (place : Place) → P other → ((i : ℕ) → index_of place ≡ Some i → P (index i))
       → ((i j : ℕ) → place ≡ Place.Committed i j → P (kept i j)) → ((s : ℕ) → place ≡ Place.Asleep s → P (steps s)) → ((i : ℕ) (m : Message) → place ≡ Place.Met i m → P (outcome i m))
       → P (carried other index kept steps outcome place)
   by-carried index kept steps outcome place o h k n q = both-carried {B = A} (λ a b. P a) other other index index kept kept steps steps outcome outcome place o h k n q

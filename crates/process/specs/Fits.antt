@@ -1,13 +1,14 @@
 -- To be believed. Document 01, "What turns a call away", refusal 7, and CR 3 of document 02: what it asks of each record. The quoted conditions are those that fail.
-use Rattle.std.specs.Prelude.{◌&&◌, ◌∷◌}
+use Rattle.std.specs.Prelude.{◌&&◌, Option, Some, None}
+use Rattle.std.specs.List.{list_all}
 use Rattle.alternative.specs.Guards.{most_guards}
 use Rattle.process.specs.Process.{carried}
-use Rattle.process.specs.Types.{ℕ, Bool, true, not, List, [], take, eqb, ltb, leb, Guard, Signal, Place, Process}
+use Rattle.process.specs.Types.{ℕ, Bool, true, not, List, take, eqb, ltb, leb, Guard, Place, Process}
+use Rattle.alternative.specs.declared.Message.{Message}
 
 -- every guard of a list passes a test
 unfoldable pub all_guards : (Guard → Bool) → List Guard → Bool
-all_guards test [] = true
-all_guards test (g ∷ gs) = test g && all_guards test gs
+all_guards test gs = list_all test gs
 
 -- not "a guard names its own party or one not below n"
 unfoldable pub partner_fits : ℕ → ℕ → Guard → Bool
@@ -18,9 +19,9 @@ unfoldable pub list_fits : ℕ → ℕ → ℕ → List Guard → Bool
 list_fits n p count guards = leb count most_guards && all_guards (partner_fits n p) (take count guards)
 
 -- not "the index in .. a signal .. has no guard in that party's own list", a list of count guards
-abbrev pub signal_fits : ℕ → Signal → Bool
-signal_fits count Signal.Absent = true
-signal_fits count (Signal.Present j m) = ltb j count
+abbrev pub signal_fits : ℕ → Option (ℕ × Message) → Bool
+signal_fits count None = true
+signal_fits count (Some (j, m)) = ltb j count
 
 -- not "the index in A, T, C, .. or an outcome has no guard in that party's own list (not the posted one), or a kept index none in the partner's posted list", a list
 -- of partner_posted guards; and, by CR 3, not "a sleeper that has made d or more steps at S"

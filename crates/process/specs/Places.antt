@@ -1,8 +1,8 @@
 -- To be believed. Document 01, "The desk and its tasks" and "Calls": for every place its letter, guard index and word, and whether an offer is open there, line by line.
-use Rattle.std.specs.Prelude.{map, ◌≡◌, ◌∷◌}
+use Rattle.std.specs.Prelude.{map, ◌≡◌, ◌∷◌, Option, Some, None}
 use Rattle.alternative.specs.Types.{Char}
 use Rattle.alternative.specs.declared.Message.{Message}
-use Rattle.process.specs.Types.{ℕ, code, Bool, true, false, List, [], Option, some, none, Place, State}
+use Rattle.process.specs.Types.{ℕ, code, Bool, true, false, List, [], Place, State}
 use Rattle.process.specs.Process.{letter_of, state_of, index_of, open_at}
 
 -- what is told of a place; open offers by the wake count, 0 and 1
@@ -27,15 +27,15 @@ abbrev pub PlaceTable : Type 0
 PlaceTable =
     (i j s : ℕ) (m : Message)
     → map told (places i j s m)
-    ≡ line "I" none State.Running false false
-    ∷ line "E" none State.Running true true
-    ∷ line "M" none State.Running false false
-    ∷ line "A" (some i) State.Alt true true
-    ∷ line "T" (some i) State.Alt true true
-    ∷ line "C" (some i) State.Alt false false
-    ∷ line "P" none State.Alt true true
-    ∷ line "O" none State.Alt true true
-    ∷ line "H" none State.Alt true false
-    ∷ line "S" none State.Sleeping true true
-    ∷ line "W" none State.Waiting true false
+    ≡ line "I" None State.Running false false
+    ∷ line "E" None State.Running true true
+    ∷ line "M" None State.Running false false
+    ∷ line "A" (Some i) State.Alt true true
+    ∷ line "T" (Some i) State.Alt true true
+    ∷ line "C" (Some i) State.Alt false false
+    ∷ line "P" None State.Alt true true
+    ∷ line "O" None State.Alt true true
+    ∷ line "H" None State.Alt true false
+    ∷ line "S" None State.Sleeping true true
+    ∷ line "W" None State.Waiting true false
     ∷ []

@@ -1,6 +1,6 @@
 -- Not to be believed: what inner contracts cite; no contract of a public function does.
-use Rattle.std.specs.Prelude.{Bool, true, false, not, leb}
-use Rattle.process.specs.Types.{Signal, Place, State, Process}
+use Rattle.std.specs.Prelude.{Bool, true, false, not, leb, is_some}
+use Rattle.process.specs.Types.{Place, State, Process}
 use Rattle.process.specs.Process.{state_of}
 
 -- rule 6's condition: the partner's word is ALT, and its ticket is not smaller
@@ -13,14 +13,10 @@ held_by State.Alt younger = younger
 abbrev pub is_held : Process → Process → Bool
 is_held x y = held_by (state_of y.place) (leb x.transaction.0 y.transaction.0)
 
-abbrev pub is_present : Signal → Bool
-is_present Signal.Absent = false
-is_present (Signal.Present j m) = true
-
 -- whether a rule changes anything
 abbrev pub changes_at : Process → Process → Place → Bool
 changes_at x y (Place.Scanning i) = not (is_held x y)
-changes_at x y Place.Waiting = is_present x.signal
+changes_at x y Place.Waiting = is_some x.signal
 changes_at x y Place.Idle = false
 changes_at x y (Place.Met i m) = false
 changes_at x y Place.Entering = true

@@ -1,8 +1,8 @@
 -- To be believed. Document 01, "The desk and its tasks", and what CR 3 of document 02 lets S carry: the words, a record and its lists, a fresh record; and from "Calls": an open offer.
-use Rattle.std.specs.Prelude.{◌&&◌, ◌||◌}
+use Rattle.std.specs.Prelude.{◌&&◌, ◌||◌, Option, Some, None}
 use Prim.Native.String.{[] as end, ◌∷◌ as ◌then◌}
 use Rattle.alternative.specs.Guards.{most_guards, blank}
-use Rattle.process.specs.Types.{ℕ, code, String, Bool, false, eqb, List, [], Option, some, none, get_or, take, replicate, Message, Guard, Signal, Place, State, Process}
+use Rattle.process.specs.Types.{ℕ, code, String, Bool, false, eqb, List, [], get_or, take, replicate, Message, Guard, Place, State, Process}
 
 -- "I idle, E entering, M met", "A scanning, T trying, C committed, P posting, O opening, H showing", "S asleep", "W waiting"
 abbrev pub letter_of : Place → ℕ
@@ -59,7 +59,7 @@ carried other index kept steps outcome Place.Waiting = other
 
 -- "A, T and C carry the index of a guard."
 abbrev pub index_of : Place → Option ℕ
-index_of place = carried none some (λ i j. some i) (λ s. none) (λ i m. none) place
+index_of place = carried None Some (λ i j. Some i) (λ s. None) (λ i m. None) place
 
 -- C alone, and M alone
 abbrev pub if_committed {ℓ} : {A : Type ℓ} → A → (ℕ → ℕ → A) → Place → A
@@ -83,11 +83,11 @@ posted_guard x i = get_or (posted_list x) i blank
 
 -- what stands outside a table: a process at I with empty lists, which no call acts on
 abbrev pub nobody : Process
-nobody = record { place = Place.Idle; signal = Signal.Absent; transaction = record { 0 = 0 }; accepting = false; count = 0; altcount = 0; guards = []; altlist = [] }
+nobody = record { place = Place.Idle; signal = None; transaction = record { 0 = 0 }; accepting = false; count = 0; altcount = 0; guards = []; altlist = [] }
 
 -- "A fresh desk has every party at I, own and posted lists empty, wake counts 1, no signals, every party's ticket .. 0."
 abbrev pub fresh_process : Process
-fresh_process = let blanks = replicate most_guards blank in record { place = Place.Idle; signal = Signal.Absent; transaction = record { 0 = 0 }; accepting = false; count = 0; altcount = 0; guards = blanks; altlist = blanks }
+fresh_process = let blanks = replicate most_guards blank in record { place = Place.Idle; signal = None; transaction = record { 0 = 0 }; accepting = false; count = 0; altcount = 0; guards = blanks; altlist = blanks }
 
 -- "On any desk, reached or damaged, the open offers are those of parties at E, A, T, P, O or S, or at H or W with wake count 0."
 abbrev pub open_at : Place → Bool → Bool

@@ -22,11 +22,7 @@ pub use rules::rule;
 pub struct TransactionId(pub u32);
 
 // Document 01's signal: absent, or a guard index with a message.
-#[derive(Clone, Copy)]
-pub enum Signal {
-    Absent,
-    Present(u8, Message),
-}
+pub type Signal = Option<(u8, Message)>;
 
 // Document 01's place, a word for each letter: I E A T C P O H S W M. A guard's index goes with A, T and C; with C also the kept
 // index of the partner's guard; with S the own steps made there (document 02, request 3); with M the outcome, a guard index and a
@@ -56,7 +52,7 @@ pub enum State {
 }
 
 // Document 01's party. `guards` with `count` is its own list, `altlist` with `altcount` the posted one; `accepting` is true where
-// the wake count is 0.
+// the wake count is 0. Arrays and counts, since there is no heap, and a count of damaged bytes may be above eight.
 #[derive(Clone, Copy)]
 pub struct Process {
     pub place: Place,
@@ -69,15 +65,18 @@ pub struct Process {
     pub altlist: [Guard; 8],
 }
 
-// What a rule leaves: whether anything changed, and whether the partner's record did; the own record, and the partner's wake count
-// and signal.
+// What a process tells its partner: the partner's wake count and signal.
 #[derive(Clone, Copy)]
-pub struct Change {
-    pub moved: bool,
-    pub told: bool,
-    pub own: Process,
+pub struct Told {
     pub accepting: bool,
     pub signal: Signal,
+}
+
+// What a rule changes, where it changes anything: the own record, and what the partner is told, if anything.
+#[derive(Clone, Copy)]
+pub struct Change {
+    pub own: Process,
+    pub told: Option<Told>,
 }
 
 // Carries document 01's table of places, so that the verdict has a line for it: the letter and the word of each, and where an offer is

@@ -1,25 +1,22 @@
 // What a place says: its letter and guard index, the word that others read, whether a process is idle or its offer open, and the outcome at M.
 ghost use Rattle.std.specs.Prelude.{◌≡◌};
 ghost use Rattle.process.specs.Process.{letter_of, state_of, index_of, is_idle, open_at};
-ghost use Rattle.process.specs.InCode.{as_found, outcome_of};
+ghost use Rattle.process.specs.InCode.{outcome_of};
 
 use crate::{Place, Signal, State};
-use alternative::Found;
 
 impl Place {
     pub fn state(self) -> State
         ensures { result ≡ state_of self }
     {
         match self {
-            Place::Idle => State::Running,
-            Place::Entering => State::Running,
-            Place::Met(_, _) => State::Running,
-            Place::Scanning(_) => State::Alt,
-            Place::Trying(_) => State::Alt,
-            Place::Committed(_, _) => State::Alt,
-            Place::Posting => State::Alt,
-            Place::Opening => State::Alt,
-            Place::Showing => State::Alt,
+            Place::Idle | Place::Entering | Place::Met(_, _) => State::Running,
+            Place::Scanning(_)
+            | Place::Trying(_)
+            | Place::Committed(_, _)
+            | Place::Posting
+            | Place::Opening
+            | Place::Showing => State::Alt,
             Place::Asleep(_) => State::Sleeping,
             Place::Waiting => State::Waiting,
         }
@@ -45,28 +42,19 @@ impl Place {
     }
 
     // The guard index at A, T and C.
-    pub fn index(self) -> Found
-        ensures { result ≡ as_found (index_of self) }
+    pub fn index(self) -> Option<u8>
+        ensures { result ≡ index_of self }
     {
         match self {
-            Place::Scanning(i) => Found::At(i),
-            Place::Trying(i) => Found::At(i),
-            Place::Committed(i, _) => Found::At(i),
-            Place::Idle => Found::Missing,
-            Place::Entering => Found::Missing,
-            Place::Posting => Found::Missing,
-            Place::Opening => Found::Missing,
-            Place::Showing => Found::Missing,
-            Place::Asleep(_) => Found::Missing,
-            Place::Waiting => Found::Missing,
-            Place::Met(_, _) => Found::Missing,
+            Place::Scanning(i) | Place::Trying(i) | Place::Committed(i, _) => Some(i),
+            _ => None,
         }
     }
 
     pub fn is_idle(self) -> bool
         ensures { result ≡ is_idle self }
     {
-        self.letter() == b'I'
+        matches!(self, Place::Idle)
     }
 
     // Whether the offer of a process there is open, by its wake count: at H and W it is while that is 0.
@@ -74,17 +62,14 @@ impl Place {
         ensures { result ≡ open_at self accepting }
     {
         match self {
-            Place::Entering => true,
-            Place::Scanning(_) => true,
-            Place::Trying(_) => true,
-            Place::Posting => true,
-            Place::Opening => true,
-            Place::Asleep(_) => true,
-            Place::Showing => accepting,
-            Place::Waiting => accepting,
-            Place::Idle => false,
-            Place::Committed(_, _) => false,
-            Place::Met(_, _) => false,
+            Place::Entering
+            | Place::Scanning(_)
+            | Place::Trying(_)
+            | Place::Posting
+            | Place::Opening
+            | Place::Asleep(_) => true,
+            Place::Showing | Place::Waiting => accepting,
+            Place::Idle | Place::Committed(_, _) | Place::Met(_, _) => false,
         }
     }
 
@@ -93,17 +78,8 @@ impl Place {
         ensures { result ≡ outcome_of self }
     {
         match self {
-            Place::Met(i, m) => Signal::Present(i, m),
-            Place::Idle => Signal::Absent,
-            Place::Entering => Signal::Absent,
-            Place::Scanning(_) => Signal::Absent,
-            Place::Trying(_) => Signal::Absent,
-            Place::Committed(_, _) => Signal::Absent,
-            Place::Posting => Signal::Absent,
-            Place::Opening => Signal::Absent,
-            Place::Showing => Signal::Absent,
-            Place::Asleep(_) => Signal::Absent,
-            Place::Waiting => Signal::Absent,
+            Place::Met(i, m) => Some((i, m)),
+            _ => None,
         }
     }
 }

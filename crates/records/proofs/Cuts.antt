@@ -1,12 +1,10 @@
 -- Bytes written at one place: what stands there, and that all else is as it was.
-use Prim.Native.Nat.{ℕ, suc, ◌+◌, ◌-◌, ◌≤◌, ◌<◌}
+use Prim.Native.Nat.{ℕ, ◌+◌, ◌-◌, ◌≤◌, ◌<◌}
 use mathlib.Core.Path.{◌≡◌, refl, sym, ap, subst, ◌∙◌}
-use mathlib.Core.Logic.{◌⊎◌, ⊎_elim}
-use mathlib.Core.List.{List, [], ◌∷◌, ◌++◌, append_assoc}
+use mathlib.Core.List.{List, ◌++◌, append_assoc}
 use native.Mathlib.Omega.{arith}
-use native.Mathlib.Numerals.{add-one}
-use lib.ListN.{length, take, drop, set, length-append, length-drop, take-append-drop}
-use lib.Seq.{drop-cons, sets, sets-eq, take_all, paste, paste-suc, get_or-take, get_or-drop, drop-drop, take-append-le, drop-append-le, take_at, drop_at, length-take-le}
+use lib.ListN.{length, take, drop, length-append, length-drop, take-append-drop}
+use lib.Seq.{sets, sets-eq, paste, get_or-take, get_or-drop, drop-drop, take-append-le, drop-append-le, take_at, drop_at, length-take-le}
 use Rattle.wire.specs.Reading.{byte}
 use Rattle.records.specs.Layout.{part}
 
@@ -72,23 +70,9 @@ wrote-paste d at s n h g =
 part_length : (d : List ℕ) (a n : ℕ) → a + n ≤ length d → length (part d a n) ≡ n
 part_length d a n h = length-take-le n (drop a d) (omega (arith, length-drop a d))
 
--- one turn of a copy within a list, to a place that it does not share
-pub copy-next : (d : List ℕ) (from at count k : ℕ) (l : List ℕ) → from + count ≤ length d → at + count ≤ length d → (from + count ≤ at) ⊎ (at + count ≤ from) → k < count → l ≡ paste d at (part d from count) k
-    → set l (at + k) (byte l (from + k)) ≡ paste d at (part d from count) (k + 1)
-copy-next d from at count k l h g apart i e =
-    let s = part d from count in
-    let n : length s ≡ count = part_length d from count h in
-    let w = wrote-paste d at s k (omega arith) (omega arith) in
-    let kept : byte (paste d at s k) (from + k) ≡ byte d (from + k) = ⊎_elim (λ b. byte-before w (from + k) (omega arith)) (λ b. byte-after w (from + k) (omega arith)) apart in
-    let here : byte (paste d at s k) (from + k) ≡ byte s k = kept ∙ sym (get_or-take count (drop from d) k 0 i ∙ get_or-drop from d k 0) in
-    ap (λ (x : List ℕ). set x (at + k) (byte x (from + k))) e ∙ ap (set (paste d at s k) (at + k)) here ∙ paste-suc d at s k 0 (omega arith) (omega arith) ∙ ap (paste d at s) (sym (add-one k))
-
--- a whole copy
-pub wrote-copy : (d : List ℕ) (from at count : ℕ) (l : List ℕ) → from + count ≤ length d → at + count ≤ length d → l ≡ paste d at (part d from count) count → Wrote d l at count (part d from count)
-wrote-copy d from at count l h g e =
-    let s = part d from count in
-    let n : length s ≡ count = part_length d from count h in
-    subst (λ (x : List ℕ). Wrote d x at count s) (sym e) (subst (λ (vs : List ℕ). Wrote d (paste d at s count) at count vs) (take_all count s (omega arith)) (wrote-paste d at s count g (omega arith)))
+-- a copy within a list
+pub wrote-copy : (d : List ℕ) (from at count : ℕ) (l : List ℕ) → from + count ≤ length d → at + count ≤ length d → l ≡ paste d at (drop from d) count → Wrote d l at count (part d from count)
+wrote-copy d from at count l h g e = subst (λ (x : List ℕ). Wrote d x at count (part d from count)) (sym e) (wrote-paste d at (drop from d) count g (omega (arith, length-drop from d)))
 
 -- how long a part is that is lent as from a to a + n
 pub lent_length : (d : List ℕ) (a n k : ℕ) → k ≡ n → a + n ≤ length d → length (take k (drop a d)) ≡ n
@@ -101,20 +85,11 @@ pub lent-byte : (d : List ℕ) (a n k i : ℕ) → k ≡ n → i < n → byte (t
 lent-byte d a n k i e h = ap (λ (m : ℕ). byte (take m (drop a d)) i) e ∙ get_or-take n (drop a d) i 0 h ∙ get_or-drop a d i 0
 
 -- bytes written one after another
+pub sets-mid : (l : List ℕ) (a n k : ℕ) (vs : List ℕ) → k ≡ n → length vs ≡ n → a + n ≤ length l → take a l ++ (vs ++ drop k (drop a l)) ≡ sets l a vs
+sets-mid l a n k vs f e h = rw (f, drop-drop n a l) (sym (sets-eq vs l a (omega arith) ∙ rw e (append_assoc (take a l) vs (drop (a + n) l))))
+
 pub wrote-sets : (l : List ℕ) (a n : ℕ) (vs l' : List ℕ) → length vs ≡ n → a + n ≤ length l → l' ≡ sets l a vs → Wrote l l' a n vs
-wrote-sets l a n vs l' e h f =
-    let g : sets l a vs ≡ take a l ++ (vs ++ drop n (drop a l)) = sets-eq vs l a (omega arith) ∙ rw (e, drop-drop n a l) (append_assoc (take a l) vs (drop (a + n) l)) in
-    subst (λ (x : List ℕ). Wrote l x a n vs) (sym (f ∙ g)) (wrote-mid l vs a n n refl h e)
-
--- nine bytes, spelt out
-part-cons : (r : List ℕ) (o j n : ℕ) → o + j < length r → part r (o + j) (suc n) ≡ byte r (o + j) ∷ part r (o + (j + 1)) n
-part-cons r o j n h = let e : suc (o + j) ≡ o + (j + 1) = omega arith in ap (take (suc n)) (drop-cons r (o + j) 0 h) ∙ ap (λ (k : ℕ). byte r (o + j) ∷ part r k n) e
-
-pub nine-is : (r : List ℕ) (o : ℕ) → o + 9 ≤ length r
-    → part r o 9 ≡ byte r o ∷ byte r (o + 1) ∷ byte r (o + 2) ∷ byte r (o + 3) ∷ byte r (o + 4) ∷ byte r (o + 5) ∷ byte r (o + 6) ∷ byte r (o + 7) ∷ byte r (o + 8) ∷ []
-nine-is r o h =
-    let first : part r o 9 ≡ byte r o ∷ part r (o + 1) 8 = ap (take 9) (drop-cons r o 0 (omega arith)) ∙ ap (λ (k : ℕ). byte r o ∷ part r k 8) (sym (add-one o)) in
-    rw (first, part-cons r o 1 7 (omega arith), part-cons r o 2 6 (omega arith), part-cons r o 3 5 (omega arith), part-cons r o 4 4 (omega arith), part-cons r o 5 3 (omega arith), part-cons r o 6 2 (omega arith), part-cons r o 7 1 (omega arith), part-cons r o 8 0 (omega arith))
+wrote-sets l a n vs l' e h f = subst (λ (x : List ℕ). Wrote l x a n vs) (sets-mid l a n n vs refl e h ∙ sym f) (wrote-mid l vs a n n refl h e)
 
 -- where the bytes are written that stood there, nothing is changed
 pub wrote-same : {l l' : List ℕ} {a n : ℕ} {vs : List ℕ} → Wrote l l' a n vs → vs ≡ part l a n → l' ≡ l

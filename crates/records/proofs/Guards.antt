@@ -1,4 +1,5 @@
 -- A list of guards, tested guard by guard without a way out.
+use Rattle.std.specs.Prelude.{Some, None}
 use Prim.Native.Nat.{ℕ, ◌+◌, ◌≤◌, ◌<◌}
 use mathlib.Core.Path.{◌≡◌, refl, sym, ap, ◌∙◌}
 use mathlib.Core.Bool.{Bool, true, false, ◌&&◌, ◌||◌, not}
@@ -10,7 +11,6 @@ use borrow.Author.Tests.{leb-true, leb-false}
 use native.Mathlib.Numerals.{add-one}
 use borrow.Author.Tests.{eq-eqb, ne_eqb}
 use Rattle.alternative.specs.Guards.{blank, first_from}
-use Rattle.records.specs.Types.{Found}
 use Rattle.alternative.proofs.Rest.{rest_at, rest_end}
 use Rattle.records.specs.Types.{Guard}
 use Rattle.wire.specs.Reading.{byte}
@@ -81,7 +81,7 @@ module _ (r : List ℕ) (at b : ℕ) where
 
   -- the search for an enabled guard: it stops at guard k, or goes on
   module _ (count k : ℕ) (below : k < count) (most : count ≤ 8) (room : b + 104 ≤ length r) where
-    pub enabled-hit : (byte r (b + k) ≡ 0 → ⊥) → first_from (λ g. g.enabled) (drop k (take count (guards_at r at b))) k ≡ Found.At k
+    pub enabled-hit : (byte r (b + k) ≡ 0 → ⊥) → first_from (λ g. g.enabled) (drop k (take count (guards_at r at b))) k ≡ Some k
     unfolding first_from
     enabled-hit e = rw (rest_at (guards_at r at b) count k blank below (omega (arith, guards-length)), enabled-at k (omega arith) room, ne_eqb (byte r (b + k)) 0 e)
 
@@ -89,6 +89,6 @@ module _ (r : List ℕ) (at b : ℕ) where
     unfolding first_from
     enabled-miss e = rw (rest_at (guards_at r at b) count k blank below (omega (arith, guards-length)), enabled-at k (omega arith) room, eq-eqb (byte r (b + k)) 0 e, add-one)
 
-  pub enabled-end : (count k : ℕ) → count ≤ k → first_from (λ g. g.enabled) (drop k (take count (guards_at r at b))) k ≡ Found.Missing
+  pub enabled-end : (count k : ℕ) → count ≤ k → first_from (λ g. g.enabled) (drop k (take count (guards_at r at b))) k ≡ None
   unfolding first_from
   enabled-end count k h = rw (rest_end (guards_at r at b) count k (omega arith))

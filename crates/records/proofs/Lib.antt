@@ -1,10 +1,8 @@
-pub mod Back
 pub mod Blanks
 pub mod Cuts
 pub mod Guards
 pub mod Matching
 pub mod Offers
-pub mod Owned
 pub mod Records
 pub mod Ruled
 pub mod Slots

@@ -1,4 +1,5 @@
 -- When guards match, from their bytes.
+use Rattle.std.specs.Prelude.{Option, Some}
 use Prim.Native.Nat.{ℕ, zero, suc, ◌+◌, ◌*◌, ◌≤◌, ◌<◌}
 use mathlib.Core.Path.{◌≡◌, refl, sym, ap, ◌∙◌}
 use mathlib.Core.Bool.{Bool, true, false, ◌&&◌, ◌||◌, not}
@@ -11,7 +12,7 @@ use borrow.Author.Tests.{eq-eqb, ne_eqb}
 use Rattle.alternative.specs.Guards.{blank, opposite, guards_match, kept_match}
 use Rattle.alternative.proofs.Kept.{SoFar, takes, leaves, searched-all}
 use Rattle.process.specs.Process.{own_guard, posted_list}
-use Rattle.records.specs.Types.{Message, Action, Guard, Found}
+use Rattle.records.specs.Types.{Message, Action, Guard}
 use Rattle.wire.specs.Reading.{byte, message_of}
 use Rattle.records.specs.Layout.{part}
 use Rattle.records.specs.Reading.{action_of, guard_of, guards_at, process_of}
@@ -66,15 +67,15 @@ module _ (p : ℕ) (x y : List ℕ) (i q : ℕ) (own : i < byte x 5) (most : byt
     rank-at = in_rest y 152 (24 + k) (176 + k) (omega arith) (omega arith)
 
     -- a turn of the search: posted guard k takes the place of the kept one
-    pub turn-takes : (kept : Found) (least : ℕ) → SoFar test list k kept least → (match_here && leb least (byte y (176 + k))) ≡ true → SoFar test list (k + 1) (Found.At k) (byte y (176 + k) + 1)
+    pub turn-takes : (kept : Option ℕ) (least : ℕ) → SoFar test list k kept least → (match_here && leb least (byte y (176 + k))) ≡ true → SoFar test list (k + 1) (Some k) (byte y (176 + k) + 1)
     turn-takes kept least s e = rw (← rank-at) (takes test list k kept least _ posted-at s (rw (match-at, rank-at) e))
 
     -- or is passed over
-    pub turn-leaves : (kept : Found) (least : ℕ) → SoFar test list k kept least → (match_here && leb least (byte y (176 + k))) ≡ false → SoFar test list (k + 1) kept least
+    pub turn-leaves : (kept : Option ℕ) (least : ℕ) → SoFar test list k kept least → (match_here && leb least (byte y (176 + k))) ≡ false → SoFar test list (k + 1) kept least
     turn-leaves kept least s e = leaves test list k kept least _ posted-at s (rw (match-at, rank-at) e)
 
   -- after the last guard what is kept is rule 7's
-  pub turn_last : (k : ℕ) (kept : Found) (least : ℕ) → k ≡ byte y 6 → SoFar test list k kept least → kept ≡ kept_match p (own_guard (process_of x) i) q list
+  pub turn_last : (k : ℕ) (kept : Option ℕ) (least : ℕ) → k ≡ byte y 6 → SoFar test list k kept least → kept ≡ kept_match p (own_guard (process_of x) i) q list
   unfolding process_of
   turn_last k kept least e s =
       let whole : k ≡ length list = omega (arith, length-take (byte y 6) (guards_at y 16 152), guards-length y 16 152) in

@@ -13,7 +13,7 @@ use Rattle.process.specs.contracts.TransactionId as transaction-id
 use Rattle.alternative.specs.Guards.{blank, slots}
 use Rattle.wire.specs.Reading.{word_of}
 use Rattle.wire.specs.Writing.{word_bytes}
-use Rattle.records.proofs.Back.{word_back}
+use Rattle.wire.proofs.Back.{word_back}
 use Rattle.wire.proofs.Lengths.{word-length}
 use Rattle.records.proofs.Blanks.{slots-more}
 use Rattle.rendezvous.specs.Calls.{entering}

@@ -1,4 +1,5 @@
 -- A record whose bytes are written.
+use Rattle.std.specs.Prelude.{Some, None}
 use Prim.Native.Nat.{ℕ, ◌+◌, ◌*◌, ◌≤◌, ◌<◌}
 use mathlib.Core.Path.{◌≡◌, refl, sym, ap, ◌∙◌}
 use mathlib.Core.Bool.{true, false, not}
@@ -9,13 +10,13 @@ use lib.Seq.{get_or-take, get_or-drop, drop-drop}
 use lib.ListN.{length-drop, get_or-eq_default}
 use Rattle.alternative.specs.Exchange.{sent_by, received_by}
 use lib.Dec.{eqb}
-use Rattle.records.specs.Types.{Message, Action, Signal, Place}
+use Rattle.records.specs.Types.{Message, Action, Place}
 use Rattle.wire.specs.Reading.{byte, word_of, message_of}
 use Rattle.rendezvous.specs.Calls.{given_up}
 use Rattle.process.specs.Rules.{at_place, with_signal, with_accepting, with_own_posted}
 use Rattle.records.specs.Layout.{part}
 use Rattle.records.specs.Reading.{action_of, place_of, signal_of, guards_at, process_of}
-use Rattle.records.proofs.Cuts.{Wrote, part-take, nine-is, part-before, part-after, byte-before}
+use Rattle.records.proofs.Cuts.{Wrote, part-take, part-before, part-after, byte-before}
 
 -- the first eight bytes spelt out: what writes them computes
 pub heads : (P : List ℕ → Type 0) → ((a b c d e f g h : ℕ) (rest : List ℕ) → P (a ∷ b ∷ c ∷ d ∷ e ∷ f ∷ g ∷ h ∷ rest)) → (r : List ℕ) → 8 ≤ length r → P r
@@ -95,13 +96,13 @@ posted-is r r₁ r₂ l w v =
 
 -- rule 13: the head after the message is copied
 taken_is : (r : List ℕ) → 8 ≤ length r → process_of (set (set (set r 1 (byte r 4)) 3 0) 0 10)
-    ≡ record { place = Place.Met (byte r 4) (message_of (part r 28 9)); signal = Signal.Absent; transaction = record { 0 = word_of (part r 24 4) }; accepting = not (eqb (byte r 7) 0); count = byte r 5; altcount = byte r 6; guards = guards_at r 8 48; altlist = guards_at r 16 152 }
+    ≡ record { place = Place.Met (byte r 4) (message_of (part r 28 9)); signal = None; transaction = record { 0 = word_of (part r 24 4) }; accepting = not (eqb (byte r 7) 0); count = byte r 5; altcount = byte r 6; guards = guards_at r 8 48; altlist = guards_at r 16 152 }
 unfolding process_of place_of signal_of
 taken_is = heads (λ r. process_of (set (set (set r 1 (byte r 4)) 3 0) 0 10)
-    ≡ record { place = Place.Met (byte r 4) (message_of (part r 28 9)); signal = Signal.Absent; transaction = record { 0 = word_of (part r 24 4) }; accepting = not (eqb (byte r 7) 0); count = byte r 5; altcount = byte r 6; guards = guards_at r 8 48; altlist = guards_at r 16 152 }) (λ a b c d e f g h rest. refl)
+    ≡ record { place = Place.Met (byte r 4) (message_of (part r 28 9)); signal = None; transaction = record { 0 = word_of (part r 24 4) }; accepting = not (eqb (byte r 7) 0); count = byte r 5; altcount = byte r 6; guards = guards_at r 8 48; altlist = guards_at r 16 152 }) (λ a b c d e f g h rest. refl)
 
 pub absorbed-is : (r r₁ : List ℕ) → 8 ≤ length r₁ → Wrote r r₁ 28 9 (part r 37 9)
-    → process_of (set (set (set r₁ 1 (byte r₁ 4)) 3 0) 0 10) ≡ at_place (with_signal (process_of r) Signal.Absent) (Place.Met (byte r 4) (message_of (part r 37 9)))
+    → process_of (set (set (set r₁ 1 (byte r₁ 4)) 3 0) 0 10) ≡ at_place (with_signal (process_of r) None) (Place.Met (byte r 4) (message_of (part r 37 9)))
 unfolding process_of
 absorbed-is r r₁ l w =
     taken_is r₁ l ∙ rw (byte-before w 4 (omega arith), byte-before w 5 (omega arith), byte-before w 6 (omega arith), byte-before w 7 (omega arith), part-before w 8 8 (omega arith), part-before w 16 8 (omega arith), part-before w 24 4 (omega arith), w.there, part-after w 48 104 (omega arith), part-after w 152 104 (omega arith))
@@ -119,12 +120,12 @@ module _ (r r₁ m : List ℕ) (long : 8 ≤ length r₁) where
       met-head r₁ long
       ∙ rw (byte-before w 1 (omega arith), byte-before w 3 (omega arith), byte-before w 4 (omega arith), byte-before w 5 (omega arith), byte-before w 6 (omega arith), byte-before w 7 (omega arith), part-before w 8 8 (omega arith), part-before w 16 8 (omega arith), part-before w 24 4 (omega arith), w.there, part-after w 37 9 (omega arith), part-after w 48 104 (omega arith), part-after w 152 104 (omega arith))
 
-signal-head : (j : ℕ) (r : List ℕ) → 8 ≤ length r → process_of (set (set r 3 1) 4 j) ≡ with_signal (process_of r) (Signal.Present j (message_of (part r 37 9)))
+signal-head : (j : ℕ) (r : List ℕ) → 8 ≤ length r → process_of (set (set r 3 1) 4 j) ≡ with_signal (process_of r) (Some (j, message_of (part r 37 9)))
 unfolding process_of place_of signal_of
-signal-head j = heads (λ r. process_of (set (set r 3 1) 4 j) ≡ with_signal (process_of r) (Signal.Present j (message_of (part r 37 9)))) (λ a b c d e f g h rest. refl)
+signal-head j = heads (λ r. process_of (set (set r 3 1) 4 j) ≡ with_signal (process_of r) (Some (j, message_of (part r 37 9)))) (λ a b c d e f g h rest. refl)
 
 module _ (r r₁ m : List ℕ) (long : 8 ≤ length r₁) where
-  pub signalled-is : (j : ℕ) → Wrote r r₁ 37 9 m → process_of (set (set r₁ 3 1) 4 j) ≡ with_signal (process_of r) (Signal.Present j (message_of m))
+  pub signalled-is : (j : ℕ) → Wrote r r₁ 37 9 m → process_of (set (set r₁ 3 1) 4 j) ≡ with_signal (process_of r) (Some (j, message_of m))
   unfolding process_of place_of
   signalled-is j w =
       signal-head j r₁ long
@@ -139,14 +140,13 @@ module _ (r : List ℕ) (at k : ℕ) (room : at + 104 ≤ length r) (below : k <
   unfolding action_of
   receives-nothing e = ap (λ (n : ℕ). sent_by (get_or (Action.Receive ∷ []) n (Action.Send (message_of (part (part r at 104) (32 + 9 * k) 9))))) (tag_is ∙ e)
 
-  pub sends-nine : (byte r (at + 8 + k) ≡ 0 → ⊥) → (o : ℕ) → o ≡ at + 32 + 9 * k
-      → message_of (byte r o ∷ byte r (o + 1) ∷ byte r (o + 2) ∷ byte r (o + 3) ∷ byte r (o + 4) ∷ byte r (o + 5) ∷ byte r (o + 6) ∷ byte r (o + 7) ∷ byte r (o + 8) ∷ []) ≡ sent_by (action_of (part r at 104) k)
+  pub sends-nine : (byte r (at + 8 + k) ≡ 0 → ⊥) → message_of (part r (at + 32 + 9 * k) 9) ≡ sent_by (action_of (part r at 104) k)
   unfolding action_of
-  sends-nine e o eo =
+  sends-nine e =
       let tag : 1 ≤ byte (part r at 104) (8 + k) = omega (arith, tag_is) in
-      let place : at + (32 + 9 * k) ≡ o = omega arith in
-      let cut : part r o 9 ≡ part (part r at 104) (32 + 9 * k) 9 = ap (λ (n : ℕ). part r n 9) (sym place) ∙ ap (take 9) (sym (drop-drop (32 + 9 * k) at r)) ∙ part-take (drop at r) 104 (32 + 9 * k) 9 (omega arith) (omega (arith, length-drop at r)) in
-      ap message_of (sym (nine-is r o (omega arith)) ∙ cut)
+      let place : at + 32 + 9 * k ≡ at + (32 + 9 * k) = omega arith in
+      let cut : part r (at + 32 + 9 * k) 9 ≡ part (part r at 104) (32 + 9 * k) 9 = ap (λ (n : ℕ). part r n 9) place ∙ ap (take 9) (sym (drop-drop (32 + 9 * k) at r)) ∙ part-take (drop at r) 104 (32 + 9 * k) 9 (omega arith) (omega (arith, length-drop at r)) in
+      ap message_of cut
       ∙ sym (ap sent_by (get_or-eq_default (Action.Receive ∷ []) (Action.Send (message_of (part (part r at 104) (32 + 9 * k) 9))) tag))
 
   pub receives : byte r (at + 8 + k) ≡ 0 → (other : Action) → received_by (action_of (part r at 104) k) other ≡ sent_by other

@@ -15,9 +15,8 @@ use Rattle.wire.specs.Reading.{byte, message_of}
 use Rattle.wire.specs.Writing.{flag, message_bytes}
 use Rattle.wire.specs.Claims.{MessageHeld}
 use Rattle.wire.proofs.Back.{flag-back}
-use Rattle.records.proofs.Back.{message-back}
+use Rattle.wire.proofs.Back.{message-back}
 use Rattle.wire.proofs.Lengths.{message-length}
-use Rattle.wire.proofs.Lists.{sets-next}
 use Rattle.records.specs.Types.{Message, Action, Guard}
 use Rattle.records.specs.Layout.{part}
 use Rattle.records.specs.Reading.{action_of, guard_of, guards_of, guards_at, place_of, signal_of, process_of}
@@ -25,16 +24,6 @@ use Rattle.records.specs.Private.{with_guards, with_guard}
 use Rattle.records.proofs.Cuts.{Wrote, part-take, part-before, part-after, byte-before, byte-after, byte-there, wrote-sets}
 use Rattle.records.proofs.Guards.{guards-length, guard-at}
 use Rattle.records.proofs.Values.{values-set}
-
--- the first k of the bytes xs stand from byte `at` on in what was l₀
-module _ (l₀ : List ℕ) (at : ℕ) (xs : List ℕ) where
-  abbrev pub Stored : List ℕ → ℕ → Type 0
-  Stored l k = (k ≤ length xs) × (length l ≡ length l₀) × (sets l (at + k) (drop k xs) ≡ sets l₀ at xs)
-
-  pub stored_more : (l : List ℕ) (k x : ℕ) → k < length xs → get_or xs k 0 ≡ x → Stored l k → Stored (set l (at + k) x) (k + 1)
-  stored_more l k x h e s =
-      let step : at + (k + 1) ≡ at + k + 1 = omega arith in
-      (omega arith, simp length-set s.1, rw (← e, step) (sets-next l (at + k) xs k h ∙ s.2))
 
 -- parts whose bytes are the same
 part_same : (l l' : List ℕ) (a n : ℕ) → length l' ≡ length l → ((i : ℕ) → a ≤ i → i < a + n → byte l' i ≡ byte l i) → part l' a n ≡ part l a n

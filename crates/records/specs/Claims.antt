@@ -1,10 +1,10 @@
 -- To be believed. The bytes of one record, in their order, and what they are read as. The function `record_as_bytes` carries it.
 use Rattle.alternative.specs.Guards.{blank}
-use Rattle.records.specs.Types.{ℕ, true, false, List, [], Message, Action, Guard, Signal, Place, Process}
+use Rattle.records.specs.Types.{ℕ, true, false, List, [], Message, Action, Guard, Place, Process}
 use Rattle.records.specs.Reading.{process_of}
 use Rattle.std.specs.Float.{binary32}
 use Rattle.std.specs.Float.Ieee.{of_bits}
-use Rattle.std.specs.Prelude.{replicate, ◌≡◌, ◌∷◌, ◌++◌}
+use Rattle.std.specs.Prelude.{replicate, ◌≡◌, ◌∷◌, ◌++◌, Some}
 use Rattle.std.specs.Int.{w32}
 use Rattle.std.proofs.Common.{to_z}
 
@@ -38,7 +38,7 @@ list_of_two first second message =
 abbrev its_process : Process
 its_process = record {
   place = Place.Met 1 (Message.Reading (of_bits binary32 0x40970a3d));
-  signal = Signal.Present 0 Message.Nothing;
+  signal = Some (0, Message.Nothing);
   transaction = record { 0 = 0x04030201 };
   accepting = true;
   count = 2;

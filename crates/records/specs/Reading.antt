@@ -1,9 +1,9 @@
 -- To be believed. The bytes of a record, read: any bytes are a record. Too few are read as if zeros followed. A tag past the last variant's is read as the last variant, and any byte but 0 as true.
-use Rattle.std.specs.Prelude.{◌+◌, ◌*◌, ◌∷◌}
+use Rattle.std.specs.Prelude.{◌+◌, ◌*◌, ◌∷◌, Option, Some, None}
 use Rattle.wire.specs.Layout.{word_length, message_length}
 use Rattle.wire.specs.Reading.{byte, word_of, message_of}
 use Rattle.alternative.specs.Guards.{most_guards}
-use Rattle.records.specs.Types.{ℕ, zero, suc, not, List, [], get_or, eqb, Message, Action, Guard, Signal, Place, Process}
+use Rattle.records.specs.Types.{ℕ, zero, suc, not, List, [], get_or, eqb, Message, Action, Guard, Place, Process}
 use Rattle.records.specs.Layout.{part, place_at, index_at, kept_at, signal_at, signal_index_at, count_at, altcount_at, accepting_at, partners_at, posted_partners_at, ticket_at, outcome_at, signalled_at, own_at, posted_at, sends_in, kinds_in, ranks_in, messages_in, rest_length}
 
 -- f from, f (from + 1), .., so many
@@ -38,10 +38,10 @@ place_by tag i j m =
 unfoldable pub place_of : List ℕ → Place
 place_of r = place_by (byte r place_at) (byte r index_at) (byte r kept_at) (message_of (part r outcome_at message_length))
 
-abbrev pub signal_by : ℕ → ℕ → Message → Signal
-signal_by tag i m = get_or (Signal.Absent ∷ []) tag (Signal.Present i m)
+abbrev pub signal_by : ℕ → ℕ → Message → Option (ℕ × Message)
+signal_by tag i m = get_or (None ∷ []) tag (Some (i, m))
 
-unfoldable pub signal_of : List ℕ → Signal
+unfoldable pub signal_of : List ℕ → Option (ℕ × Message)
 signal_of r = signal_by (byte r signal_at) (byte r signal_index_at) (message_of (part r signalled_at message_length))
 
 unfoldable pub process_of : List ℕ → Process

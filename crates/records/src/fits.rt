@@ -1,4 +1,5 @@
-// Whether the bytes of a record fit into a table of n processes with naps of `nap` own steps, whatever they hold.
+// Whether the bytes of a record fit into a table of n processes with naps of `nap` own steps, whatever they hold. The tests are joined by `&` and `|`,
+// not by `&&` and `||`: no jump stands between comparisons of single bytes.
 ghost use Rattle.std.specs.Prelude.{ℕ, ◌+◌, ◌≤◌, ◌≡◌, length};
 ghost use Rattle.process.specs.Process.{is_open};
 ghost use Rattle.process.specs.Fits.{list_fits};
@@ -15,11 +16,9 @@ fn partners_fit(r: &[u8], at: usize, count: u8, p: u8, n: u8) -> bool
     ensures { (b : ℕ) → result ≡ list_fits n p count (guards_at r.now at b) }
 {
     let mut ok = count <= 8;
-    let mut k: u8 = 0;
-    while k < 8 {
+    for k in 0..8u8 {
         let q = r[at + k as usize];
         ok = ok & ((count <= k) | ((q != p) & (q < n)));
-        k = k + 1;
     }
     ok
 }
@@ -39,7 +38,7 @@ fn indexes_fit(r: &[u8], nap: u8) -> bool
     }
     let i = r[layout::INDEX_AT];
     let indexed = ((layout::SCANNING <= tag) & (tag <= layout::COMMITTED)) | (layout::MET <= tag);
-    (!indexed | (i < count)) & ((!(tag == layout::ASLEEP) | (i < nap)) & signal)
+    (!indexed | (i < count)) & (((tag != layout::ASLEEP) | (i < nap)) & signal)
 }
 
 // Whether both lists fit. Empty ones, of a process that has offered nothing yet, are not looked through.

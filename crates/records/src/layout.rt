@@ -34,6 +34,8 @@ pub const OWN_AT: usize = 48;
 
 pub const POSTED_AT: usize = 152;
 
+// Every function here asks for a slice of at least so many bytes, not for an array of as many: docs/PROMISES.md names the public ones, which take
+// longer slices too, and an array excludes those.
 pub const RECORD_BYTES: usize = 256;
 
 // The rest of a list: eight bytes of enabled, then of sends, kinds and ranks, then eight messages.
@@ -47,7 +49,8 @@ pub const MESSAGES_IN: usize = 32;
 
 pub const REST_BYTES: usize = 104;
 
-// The tags of places, in document 01's order of the rules' letters: I E A T C P O H S W M.
+// The tags of places, in document 01's order of the rules' letters: I E A T C P O H S W M. They are bytes of the format, so numbers: an enum
+// would be read through a conversion of each byte that a test looks at, and every byte from 10 on is M's.
 pub const IDLE: u8 = 0;
 
 pub const ENTERING: u8 = 1;

@@ -13,21 +13,12 @@ pub fn sent_bytes(r: &[u8], at: usize, k: u8) -> [u8; MESSAGE_BYTES]
     requires { (at + rest_length ≤ length r.now) × (k < 8) }
     ensures { message_of result ≡ sent_by (action_of (part r.now at rest_length) k) }
 {
-    if r[at + layout::SENDS_IN + k as usize] == 0 {
-        return [0u8; MESSAGE_BYTES];
+    let mut message = [0u8; MESSAGE_BYTES];
+    if r[at + layout::SENDS_IN + k as usize] != 0 {
+        let o = at + layout::MESSAGES_IN + MESSAGE_BYTES * k as usize;
+        message.copy_from_slice(&r[o..o + MESSAGE_BYTES]);
     }
-    let o = at + layout::MESSAGES_IN + MESSAGE_BYTES * k as usize;
-    [
-        r[o],
-        r[o + 1],
-        r[o + 2],
-        r[o + 3],
-        r[o + 4],
-        r[o + 5],
-        r[o + 6],
-        r[o + 7],
-        r[o + 8],
-    ]
+    message
 }
 
 // What own guard i in x gets from posted guard k in y: the other's message if it receives, nothing if it sends.

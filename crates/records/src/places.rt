@@ -14,16 +14,16 @@ pub fn place_in(r: &[u8]) -> Place
 {
     let i = r[layout::INDEX_AT];
     match r[layout::PLACE_AT] {
-        0 => Place::Idle,
-        1 => Place::Entering,
-        2 => Place::Scanning(i),
-        3 => Place::Trying(i),
-        4 => Place::Committed(i, r[layout::KEPT_AT]),
-        5 => Place::Posting,
-        6 => Place::Opening,
-        7 => Place::Showing,
-        8 => Place::Asleep(i),
-        9 => Place::Waiting,
+        layout::IDLE => Place::Idle,
+        layout::ENTERING => Place::Entering,
+        layout::SCANNING => Place::Scanning(i),
+        layout::TRYING => Place::Trying(i),
+        layout::COMMITTED => Place::Committed(i, r[layout::KEPT_AT]),
+        layout::POSTING => Place::Posting,
+        layout::OPENING => Place::Opening,
+        layout::SHOWING => Place::Showing,
+        layout::ASLEEP => Place::Asleep(i),
+        layout::WAITING => Place::Waiting,
         _ => Place::Met(
             i,
             message_of(&r[layout::OUTCOME_AT..layout::OUTCOME_AT + MESSAGE_BYTES]),

@@ -12,7 +12,6 @@ ghost use Rattle.records.specs.Private.{own_effect, passes_by};
 use crate::layout;
 use crate::lists::next_own;
 use crate::writes::{absorbed, asleep, posted, posting, scanning, showing, trying, waiting};
-use alternative::Found;
 
 // To A at the first enabled guard at or after guard `from`, or to P.
 pub fn scanned(r: &mut [u8], from: u8)
@@ -20,8 +19,8 @@ pub fn scanned(r: &mut [u8], from: u8)
     ensures { process_of r.new ≡ at_place (process_of r.old) (scan_at (next_enabled (own_list (process_of r.old)) from)) }
 {
     match next_own(r, from) {
-        Found::At(i) => scanning(r, i),
-        Found::Missing => posting(r),
+        Some(i) => scanning(r, i),
+        None => posting(r),
     }
 }
 
@@ -43,33 +42,19 @@ pub fn own_rule(r: &mut [u8], nap: u8) -> bool
     ensures rule { (p q : ℕ) (y : Process) → rule nap p (process_of r.old) q y ≡ own_effect result r.new }
     ensures still { result ≡ false → r.new ≡ r.old }
 {
-    let tag = r[layout::PLACE_AT];
-    if tag == layout::ENTERING {
-        scanned(r, 0);
-        return true;
+    match r[layout::PLACE_AT] {
+        layout::ENTERING => scanned(r, 0),
+        layout::ASLEEP => {
+            let steps = r[layout::INDEX_AT];
+            slept(r, steps, nap);
+        }
+        layout::POSTING => posted(r),
+        layout::OPENING => showing(r),
+        layout::SHOWING => waiting(r),
+        layout::WAITING if r[layout::SIGNAL_AT] != 0 => absorbed(r),
+        _ => return false,
     }
-    if tag == layout::ASLEEP {
-        let steps = r[layout::INDEX_AT];
-        slept(r, steps, nap);
-        return true;
-    }
-    if tag == layout::POSTING {
-        posted(r);
-        return true;
-    }
-    if tag == layout::OPENING {
-        showing(r);
-        return true;
-    }
-    if tag == layout::SHOWING {
-        waiting(r);
-        return true;
-    }
-    if (tag == layout::WAITING) & (r[layout::SIGNAL_AT] != 0) {
-        absorbed(r);
-        return true;
-    }
-    false
+    true
 }
 
 // Whether a tag's word is RUNNING or SLEEPING: I, E, S and M.

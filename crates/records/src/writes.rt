@@ -1,40 +1,24 @@
-// What is written into one record, which is lent: each changes what it names and no other part of the record.
-ghost use Rattle.std.specs.Prelude.{◌+◌, ◌≤◌, ◌≡◌, true, false, ◌⊎◌, length};
-ghost use Rattle.std.proofs.Math.Seq.{paste};
+// What is written into one record, which is lent: each changes what it names and no other part of the record. Each place that a record goes to
+// has a function of its own: one over the place's tag would say in its contract, tag by tag, what the place carries, for two shared lines.
+ghost use Rattle.std.specs.Prelude.{◌+◌, ◌≤◌, ◌≡◌, true, false, length};
 ghost use Rattle.std.proofs.lemmas.List.Edits.{sets};
 ghost use Rattle.process.specs.Rules.{at_place, with_signal, with_accepting, with_own_posted};
 ghost use Rattle.rendezvous.specs.Calls.{given_up};
 ghost use Rattle.wire.specs.Layout.{message_length};
 ghost use Rattle.wire.specs.Reading.{byte, message_of};
-ghost use Rattle.records.specs.Types.{Place, Signal};
+ghost use Rattle.records.specs.Types.{Place};
 ghost use Rattle.records.specs.Layout.{part, record_length, index_at, signal_index_at, signalled_at};
 ghost use Rattle.records.specs.Reading.{process_of};
 
 use crate::layout;
 use wire::MESSAGE_BYTES;
 
-// Copies bytes from one place to another that it does not share.
-fn copied(r: &mut [u8], from: usize, to: usize, count: usize)
-    requires { (from + count ≤ length r.old) × (to + count ≤ length r.old) × ((from + count ≤ to) ⊎ (to + count ≤ from)) }
-    ensures { r.new ≡ paste r.old to (part r.old from count) count }
-{
-    let mut k: usize = 0;
-    while k < count {
-        r[to + k] = r[from + k];
-        k = k + 1;
-    }
-}
-
 // Writes a message's bytes from byte `at` on. Unlike `put_bytes` it tests no byte for the end.
 pub fn put_message(r: &mut [u8], at: usize, m: [u8; MESSAGE_BYTES])
     requires { at + message_length ≤ length r.old }
     ensures { r.new ≡ sets r.old at m }
 {
-    let mut k: usize = 0;
-    while k < MESSAGE_BYTES {
-        r[at + k] = m[k];
-        k = k + 1;
-    }
+    r[at..at + MESSAGE_BYTES].copy_from_slice(&m);
 }
 
 // The place becomes I.
@@ -114,7 +98,7 @@ pub fn met(r: &mut [u8], m: [u8; MESSAGE_BYTES])
 // Rule 9, the partner's record: its signal becomes the kept index with a message.
 pub fn signalled(r: &mut [u8], kept: u8, m: [u8; MESSAGE_BYTES])
     requires { record_length ≤ length r.old }
-    ensures { process_of r.new ≡ with_signal (process_of r.old) (Signal.Present kept (message_of m)) }
+    ensures { process_of r.new ≡ with_signal (process_of r.old) (Some (kept, message_of m)) }
 {
     put_message(r, layout::SIGNALLED_AT, m);
     r[layout::SIGNAL_AT] = 1;
@@ -126,8 +110,14 @@ pub fn posted(r: &mut [u8])
     requires { record_length ≤ length r.old }
     ensures { process_of r.new ≡ at_place (with_own_posted (process_of r.old)) Place.Opening }
 {
-    copied(r, layout::PARTNERS_AT, layout::POSTED_PARTNERS_AT, 8);
-    copied(r, layout::OWN_AT, layout::POSTED_AT, layout::REST_BYTES);
+    r.copy_within(
+        layout::PARTNERS_AT..layout::PARTNERS_AT + 8,
+        layout::POSTED_PARTNERS_AT,
+    );
+    r.copy_within(
+        layout::OWN_AT..layout::OWN_AT + layout::REST_BYTES,
+        layout::POSTED_AT,
+    );
     r[layout::ALTCOUNT_AT] = r[layout::COUNT_AT];
     r[layout::PLACE_AT] = layout::OPENING;
 }
@@ -154,9 +144,12 @@ pub fn waiting(r: &mut [u8])
 // Rule 13, of a signal that is present.
 pub fn absorbed(r: &mut [u8])
     requires { record_length ≤ length r.old }
-    ensures { process_of r.new ≡ at_place (with_signal (process_of r.old) Signal.Absent) (Place.Met (byte r.old signal_index_at) (message_of (part r.old signalled_at 9))) }
+    ensures { process_of r.new ≡ at_place (with_signal (process_of r.old) None) (Place.Met (byte r.old signal_index_at) (message_of (part r.old signalled_at 9))) }
 {
-    copied(r, layout::SIGNALLED_AT, layout::OUTCOME_AT, MESSAGE_BYTES);
+    r.copy_within(
+        layout::SIGNALLED_AT..layout::SIGNALLED_AT + MESSAGE_BYTES,
+        layout::OUTCOME_AT,
+    );
     r[layout::INDEX_AT] = r[layout::SIGNAL_INDEX_AT];
     r[layout::SIGNAL_AT] = 0;
     r[layout::PLACE_AT] = layout::MET;

@@ -1,33 +1,34 @@
 -- Laws of acts: carried out on the table that was read, an act is the call.
+use Rattle.std.specs.Prelude.{Result, Ok, Err, ⊤, Option, Some, None}
 use Prim.Native.Nat.{ℕ, ◌+◌, ◌%◌}
 use mathlib.Core.Path.{◌≡◌, refl, sym, ap, ◌∙◌}
 use mathlib.Core.Bool.{Bool, true, false, not}
 use mathlib.Core.List.{List}
-use lib.ListN.{set}
+use lib.ListN.{length, set, length-set}
 use lib.Seq.{set-get_or}
 use lib.Dec.{ltb}
 use Rattle.alternative.specs.declared.GuardList.{GuardList}
-use Rattle.process.specs.declared.Signal.{Signal}
 use Rattle.process.specs.Process.{is_at, nobody}
 use Rattle.process.specs.Rules.{Effect, Neither, Own, Both, changed, rule, partner_of}
 use Rattle.process.specs.InCode.{change_of, outcome_of}
 use Rattle.process.proofs.PlaceCases.{both-carried}
 use Rattle.process.proofs.OnlyTold.{OnlyTold, rule-only-told}
-use Rattle.rendezvous.specs.declared.{Form.Form, Act.Act}
-use Rattle.rendezvous.specs.Types.{Place, Process, Head, ProcessTable, Refusal, Verdict, Answer, Reply}
+use Rattle.process.specs.declared.Told.{Told}
+use Rattle.rendezvous.specs.declared.Act.{Act}
+use Rattle.rendezvous.specs.Types.{Place, Process, ProcessTable, Refusal, Answer, Reply}
 use Rattle.rendezvous.specs.Table.{most_processes, process, put, with_next}
 use Rattle.rendezvous.specs.WellFormed.{well_formed}
-use Rattle.rendezvous.specs.Forms.{form_end}
-use Rattle.rendezvous.specs.Refusals.{require, process_tests, process_verdict, list_verdict, state_verdict, offer_tests, offer_verdict, withdraw_tests}
+use Rattle.rendezvous.specs.Forms.{Form, form_end}
+use Rattle.rendezvous.specs.Refusals.{require, process_tests, process_verdict, list_verdict, state_verdict, offer_verdict}
 use Rattle.rendezvous.specs.Refusals.{withdraw_verdict}
 use Rattle.rendezvous.specs.Calls.{if_accepted, entering, offered, offer_list, effect_on, applied, stepped, step, collected, collect, commit_came_first}
 use Rattle.rendezvous.specs.Calls.{withdrawn_or_late, withdraw}
-use Rattle.rendezvous.specs.Acts.{alone, unless_refused, offer_act, moved_act, step_act, collected_act, collect_act, withdrawn_or_late_act, withdraw_act, done}
+use Rattle.rendezvous.specs.Acts.{alone, unless_refused, offer_act, moved_act, step_act, collected_act, collect_act, withdrawn_or_late_act, withdraw_act, told_to, done}
 use Rattle.rendezvous.specs.Acts.{FormOf, AllActsAreCalls}
 use Rattle.rendezvous.proofs.Steps.{inside}
 
 -- an act that changes nothing: what was read is written again
-pub nothing-done : (t : ProcessTable) (i j : ℕ) (answer : Answer) → done t i j (alone answer t.head (process t i)) ≡ record { answer = answer; table = t }
+pub nothing-done : (t : ProcessTable) (i j : ℕ) (answer : Result Answer Refusal) → done t i j (alone answer t.head (process t i)) ≡ record { answer = answer; table = t }
 unfolding done
 nothing-done t i j answer = ap with-list (set-get_or t.processes i nobody)
   where
@@ -36,25 +37,25 @@ nothing-done t i j answer = ap with-list (set-get_or t.processes i nobody)
 
 module _ (t : ProcessTable) (p : ℕ) where
   -- behind a verdict, the act and the reply of a call that is not refused
-  if-done : (q : ℕ) (v : Verdict) (act : Act) (reply : Reply) → done t p q act ≡ reply → done t p q (unless_refused v t.head (process t p) act) ≡ if_accepted v t reply
-  if-done q Verdict.Accepted act reply e = e
-  if-done q (Verdict.Refused r) act reply e = nothing-done t p q (Answer.Refused r)
+  if-done : (q : ℕ) (v : Result ⊤ Refusal) (act : Act) (reply : Reply) → done t p q act ≡ reply → done t p q (unless_refused v t.head (process t p) act) ≡ if_accepted v t reply
+  if-done q (Ok tt) act reply e = e
+  if-done q (Err r) act reply e = nothing-done t p q (Err r)
 
-  applied-done : (q : ℕ) (e : Effect) → OnlyTold (process t q) e → done t p q (moved_act t.head (change_of (process t p) (process t q) e)) ≡ applied t p q e
+  applied-done : (q : ℕ) (e : Effect) → OnlyTold (process t q) e → done t p q (moved_act t.head (process t p) (change_of e)) ≡ applied t p q e
   unfolding done
-  applied-done q Neither k = nothing-done t p q Answer.Unchanged
+  applied-done q Neither k = nothing-done t p q (Ok Answer.Unchanged)
   applied-done q (Own x) k = refl
   applied-done q (Both x y) k = rw k
 
   collected-done : (q : ℕ) (place : Place) → done t p q (collected_act t.head (process t p) (outcome_of place)) ≡ collected t p (process t p) place
   unfolding done
   collected-done q place =
-      let refused = nothing-done t p q (Answer.Refused Refusal.NotMet) in
+      let refused = nothing-done t p q (Err Refusal.NotMet) in
       both-carried (λ s r. done t p q (collected_act t.head (process t p) s) ≡ r) _ _ _ _ _ _ _ _ _ _ place refused (λ i e. refused) (λ i j e. refused) (λ s e. refused) (λ i m e. refl)
 
   withdrawn-done : (q : ℕ) (first : Bool) → let x = process t p in done t p q (withdrawn_or_late_act t.head x first) ≡ withdrawn_or_late t p x first
   unfolding done
-  withdrawn-done q true = nothing-done t p q Answer.TooLate
+  withdrawn-done q true = nothing-done t p q (Ok Answer.TooLate)
   withdrawn-done q false = refl
 
 pub acts-are-calls : AllActsAreCalls
@@ -67,19 +68,29 @@ acts-are-calls t form e = record {
 }
 
 -- as the code carries an act out: the partner's record, where it is told something, then the own record and the head
-pub done-both : (t u : ProcessTable) (i j : ℕ) (act : Act) (y : Process) → act.told ≡ true → y ≡ changed (process t j) (process t j).place act.signal act.accepting → u ≡ put t j y
+pub told-carried : (t u : ProcessTable) (i j : ℕ) (act : Act) (told : Told) → act.told ≡ Some told
+    → u ≡ put t j (changed (process t j) (process t j).place told.signal told.accepting)
     → record { answer = act.answer; table = record { head = act.head; processes = set u.processes i act.own } } ≡ done t i j act
 unfolding done
-done-both t u i j act y told e f = rw (f, told, e)
+told-carried t u i j act told e f = rw (f, e)
 
-pub done-own : (t u : ProcessTable) (i j : ℕ) (act : Act) → act.told ≡ false → u ≡ t
+pub alone-carried : (t u : ProcessTable) (i j : ℕ) (act : Act) → act.told ≡ None → u ≡ t
     → record { answer = act.answer; table = record { head = act.head; processes = set u.processes i act.own } } ≡ done t i j act
 unfolding done
-done-own t u i j act told f = rw (f, told)
+alone-carried t u i j act e f = rw (f, e)
+
+-- there are as many records as there were
+pub done-long : (t : ProcessTable) (p q : ℕ) (act : Act) → length (done t p q act).table.processes ≡ length t.processes
+unfolding done
+done-long t p q act = length-set (told_to t q act.told) p act.own ∙ go act.told
+  where
+    go : (told : Option Told) → length (told_to t q told) ≡ length t.processes
+    go (Some told) = length-set t.processes q _
+    go None = refl
 
 -- The code reads and writes the records at i = p % most_processes and j = q % most_processes: those of p and q where 7 and 2 let p pass. Where they do not, what was read is written again,
 -- wherever it was.
-at_places : (t : ProcessTable) (form : Form) → FormOf t form → (p q i j : ℕ) (rest : Process → Verdict) (act : Process → Process → Act) → (process_verdict t p ≡ Verdict.Accepted → (i ≡ p) × (j ≡ q))
+at_places : (t : ProcessTable) (form : Form) → FormOf t form → (p q i j : ℕ) (rest : Process → Result ⊤ Refusal) (act : Process → Process → Act) → (process_verdict t p ≡ Ok tt → (i ≡ p) × (j ≡ q))
     → done t i j (unless_refused (process_tests (form_end form t.head) t.head.n p (rest (process t i))) t.head (process t i) (act (process t i) (process t j)))
     ≡ done t p q (unless_refused (process_tests (form_end form t.head) t.head.n p (rest (process t p))) t.head (process t p) (act (process t p) (process t q)))
 unfolding process_verdict
@@ -89,66 +100,36 @@ at_places t form told p q i j rest act same = go (form_end form t.head) (sym tol
         → done t i j (unless_refused (require a Refusal.NotWellFormed (require b Refusal.NoSuchProcess (rest (process t i)))) t.head (process t i) (act (process t i) (process t j)))
         ≡ done t p q (unless_refused (require a Refusal.NotWellFormed (require b Refusal.NoSuchProcess (rest (process t p)))) t.head (process t p) (act (process t p) (process t q)))
     go true e true f = let s = same (rw (e, f)) in rw (s.0, s.1)
-    go true e false f = nothing-done t i j (Answer.Refused Refusal.NoSuchProcess) ∙ sym (nothing-done t p q (Answer.Refused Refusal.NoSuchProcess))
-    go false e b f = nothing-done t i j (Answer.Refused Refusal.NotWellFormed) ∙ sym (nothing-done t p q (Answer.Refused Refusal.NotWellFormed))
+    go true e false f = nothing-done t i j (Err Refusal.NoSuchProcess) ∙ sym (nothing-done t p q (Err Refusal.NoSuchProcess))
+    go false e b f = nothing-done t i j (Err Refusal.NotWellFormed) ∙ sym (nothing-done t p q (Err Refusal.NotWellFormed))
 
--- an offer, a collection and a withdrawal tell no partner
-if-untold : (v : Verdict) (h : Head) (x : Process) (act : Act) → act.told ≡ false → (unless_refused v h x act).told ≡ false
-if-untold Verdict.Accepted h x act e = e
-if-untold (Verdict.Refused r) h x act e = refl
-
-collected-untold : (h : Head) (x : Process) (outcome : Signal) → (collected_act h x outcome).told ≡ false
-collected-untold h x (Signal.Present i m) = refl
-collected-untold h x Signal.Absent = refl
-
-withdrawn-untold : (h : Head) (x : Process) (first : Bool) → (withdrawn_or_late_act h x first).told ≡ false
-withdrawn-untold h x true = refl
-withdrawn-untold h x false = refl
-
--- from what the code has read: the act, carried out where it was read, is the call
-module _ (t : ProcessTable) (p : ℕ) (form : Form) (told : FormOf t form) (act : Act) where
-  abbrev x : Process
-  x = process t (p % most_processes)
-
-  abbrev written : Reply
-  written = record { answer = act.answer; table = record { head = act.head; processes = set t.processes (p % most_processes) act.own } }
-
+-- from the record x that the code has read: the act, carried out where it was read, is the call
+module _ (t : ProcessTable) (p : ℕ) (form : Form) (told : FormOf t form) (x : Process) (own : x ≡ process t (p % most_processes)) (act : Act) where
   pub offer-done : (list : GuardList) (j : ℕ) → act ≡ offer_act form t.head p x list → done t (p % most_processes) j act ≡ offer_list t p list
   unfolding offer_act
   offer-done list j e =
-      rw e
+      rw (e, own)
       (at_places t form told p j (p % most_processes) j (λ x. list_verdict t.head.n p list (state_verdict x.place t.head.next))
-      (λ x y. alone (Answer.Offered t.head.next) (with_next t.head (t.head.next.0 + 1)) (entering x t.head.next list)) (λ a. ((inside t p a).own, refl))
+      (λ x y. alone (Ok (Answer.Offered t.head.next)) (with_next t.head (t.head.next.0 + 1)) (entering x t.head.next list)) (λ a. ((inside t p a).own, refl))
       ∙ (acts-are-calls t form told).offers p j list)
 
-  pub offer-written : (list : GuardList) → act ≡ offer_act form t.head p x list → written ≡ offer_list t p list
-  unfolding offer_act
-  offer-written list e = done-own t t (p % most_processes) 0 act (rw e (if-untold (offer_tests (form_end form t.head) t.head p list x.place) t.head x _ refl)) refl ∙ offer-done list 0 e
-
-  pub step-done : (q : ℕ) → q ≡ partner_of x → act ≡ step_act form t.head p x q (process t (q % most_processes)) → done t (p % most_processes) (q % most_processes) act ≡ step t p
+  pub step-done : (q : ℕ) (y : Process) → q ≡ partner_of x → y ≡ process t (q % most_processes) → act ≡ step_act form t.head p x q y
+      → done t (p % most_processes) (q % most_processes) act ≡ step t p
   unfolding step_act
-  step-done q named e =
-      rw (e, named)
-      (at_places t form told p (partner_of (process t p)) (p % most_processes) (partner_of x % most_processes) (λ x. Verdict.Accepted) (λ x y. moved_act t.head (change_of x y (rule t.head.nap p x (partner_of x) y))) (λ a. ((inside t p a).own, rw (inside t p a).own (inside t p a).partner))
+  step-done q y named other e =
+      rw (e, other, named, own)
+      (at_places t form told p (partner_of (process t p)) (p % most_processes) (partner_of (process t (p % most_processes)) % most_processes) (λ x. (Ok tt)) (λ x y. moved_act t.head x (change_of (rule t.head.nap p x (partner_of x) y))) (λ a. ((inside t p a).own, rw (inside t p a).own (inside t p a).partner))
       ∙ (acts-are-calls t form told).steps p)
 
   pub collect-done : (j : ℕ) → act ≡ collect_act form t.head p x → done t (p % most_processes) j act ≡ collect t p
   unfolding collect_act
   collect-done j e =
-      rw e
-      (at_places t form told p j (p % most_processes) j (λ x. Verdict.Accepted) (λ x y. collected_act t.head x (outcome_of x.place)) (λ a. ((inside t p a).own, refl)) ∙ (acts-are-calls t form told).collects p j)
-
-  pub collect-written : act ≡ collect_act form t.head p x → written ≡ collect t p
-  unfolding collect_act
-  collect-written e = done-own t t (p % most_processes) 0 act (rw e (if-untold (process_tests (form_end form t.head) t.head.n p Verdict.Accepted) t.head x _ (collected-untold t.head x (outcome_of x.place)))) refl ∙ collect-done 0 e
+      rw (e, own)
+      (at_places t form told p j (p % most_processes) j (λ x. (Ok tt)) (λ x y. collected_act t.head x (outcome_of x.place)) (λ a. ((inside t p a).own, refl)) ∙ (acts-are-calls t form told).collects p j)
 
   pub withdraw-done : (j : ℕ) → act ≡ withdraw_act form t.head p x → done t (p % most_processes) j act ≡ withdraw t p
   unfolding withdraw_act
   withdraw-done j e =
-      rw e
-      (at_places t form told p j (p % most_processes) j (λ x. require (not (is_at "IM" x.place)) Refusal.NothingToWithdraw Verdict.Accepted) (λ x y. withdrawn_or_late_act t.head x (commit_came_first x.place x.accepting)) (λ a. ((inside t p a).own, refl))
+      rw (e, own)
+      (at_places t form told p j (p % most_processes) j (λ x. require (not (is_at "IM" x.place)) Refusal.NothingToWithdraw (Ok tt)) (λ x y. withdrawn_or_late_act t.head x (commit_came_first x.place x.accepting)) (λ a. ((inside t p a).own, refl))
       ∙ (acts-are-calls t form told).withdraws p j)
-
-  pub withdraw-written : act ≡ withdraw_act form t.head p x → written ≡ withdraw t p
-  unfolding withdraw_act
-  withdraw-written e = done-own t t (p % most_processes) 0 act (rw e (if-untold (withdraw_tests (form_end form t.head) t.head.n p x.place) t.head x _ (withdrawn-untold t.head x (commit_came_first x.place x.accepting)))) refl ∙ withdraw-done 0 e

@@ -1,14 +1,16 @@
 -- Laws of a well-formed table, and of the form test in its three parts.
+use Rattle.std.specs.Prelude.{Some, None}
+use Rattle.std.specs.Bool.{then_some}
 use Prim.Native.Nat.{ℕ, zero, suc, ◌+◌, ◌*◌, ◌-◌, ◌≤◌, ◌<◌, ◌%◌}
-use mathlib.Core.Path.{◌≡◌, refl, sym, subst, ◌∙◌}
+use mathlib.Core.Path.{◌≡◌, refl, sym, ap, subst, ◌∙◌}
 use mathlib.Core.Logic.{⊎_elim}
-use mathlib.Core.Bool.{Bool, true, false, ◌&&◌, cond}
+use mathlib.Core.Bool.{Bool, true, false, false≢true, ◌&&◌, cond}
 use native.Mathlib.Nat.{mod-eq_of_lt, not-suc-le-zero, le_of_suc-le-suc, eq-or-lt_of_le}
 use native.Mathlib.Numerals.{add-one}
 use native.Mathlib.Omega.{arith}
 use lib.Dec.{leb}
 use borrow.Author.Tests.{leb-true, le-leb}
-use Rattle.rendezvous.specs.declared.{Form.Form, Head.Head, ProcessTable.ProcessTable}
+use Rattle.rendezvous.specs.declared.{Head.Head, ProcessTable.ProcessTable}
 use Rattle.rendezvous.specs.Table.{most_processes, process, count_below, accounted_for}
 use Rattle.process.specs.declared.Process.{Process}
 use Rattle.process.specs.Rules.{partner_of}
@@ -18,7 +20,7 @@ use Rattle.process.specs.InCode.{committed_at}
 use Rattle.process.proofs.OnlyTold.{fits-committed, partner-below}
 use Rattle.alternative.proofs.Tests.{and_parts, both, same_test}
 use Rattle.rendezvous.specs.WellFormed.{all_below, count_fits, nap_fits, fits_at, totals_fit, well_formed}
-use Rattle.rendezvous.specs.Forms.{form_start, form_more, form_end, form_below, FormsAreWellFormed}
+use Rattle.rendezvous.specs.Forms.{Form, form_start, form_more, form_end, form_below, FormsAreWellFormed}
 use Rattle.rendezvous.specs.Acts.{FormOf}
 
 all-at : (test : ℕ → Bool) (k n : ℕ) → k < n → all_below test n ≡ true → test k ≡ true
@@ -82,88 +84,93 @@ partner-read t k x c = go (fits (q % most_processes)) (fits q) refl refl
 -- What a loop that tests a table has found before process k. Where the number of processes does not fit, what else is read does not count.
 pub record FormAt (t : ProcessTable) (k : ℕ) (form : Form) : Type 0 where
   so_far : count_fits t.head.n ≡ true → form ≡ form_below t k
-  unfit : count_fits t.head.n ≡ false → form.fits ≡ false
+  unfit : count_fits t.head.n ≡ false → form ≡ None
 
 pub form-start : (t : ProcessTable) (form : Form) → form ≡ form_start t.head → FormAt t 0 form
 unfolding form_below
 form-start t form e = record { so_far = λ _. e; unfit = λ c. rw (e, c) }
 
+-- of what the partner has posted, only whether x fits counts
+more-same : (form : Form) (h : Head) (k : ℕ) (x : Process) (a b : ℕ) → process_fits h.n h.nap k x a ≡ process_fits h.n h.nap k x b → form_more form h k x a ≡ form_more form h k x b
+more-same None h k x a b e = refl
+more-same (Some left) h k x a b e = rw e
+
 -- one turn of the loop, from what it reads: q is the process that k is committed to
-pub form-more : (t : ProcessTable) (k : ℕ) (form form' : Form) (q : ℕ) → k < t.head.n → FormAt t k form
-    → q ≡ committed_at (process t (k % most_processes)) (process t (k % most_processes)).place
-    → form' ≡ form_more form t.head k (process t (k % most_processes)) (process t (q % most_processes)).altcount → FormAt t (k + 1) form'
+pub form-more : (t : ProcessTable) (k : ℕ) (form form' : Form) (q : ℕ) (x y : Process) → k < t.head.n → FormAt t k form → x ≡ process t (k % most_processes)
+    → q ≡ committed_at x x.place → y ≡ process t (q % most_processes) → form' ≡ form_more form t.head k x y.altcount → FormAt t (k + 1) form'
 unfolding form_below
-form-more t k form form' q below f named e = record { so_far = fits; unfit = λ c. rw (e, f.unfit c) refl }
+form-more t k form form' q x' y' below f own named other e = record { so_far = fits; unfit = λ c. rw (e, f.unfit c) refl }
   where
     fits : count_fits t.head.n ≡ true → form' ≡ form_below t (k + 1)
     fits c =
         let i : k < most_processes = omega (arith, count_most t.head.n c) in
         let j : k % most_processes ≡ k = mod-eq_of_lt i in
         let x = process t k in
-        let at-q : q ≡ committed_at x x.place = rw j at named in
-        let tested : form' ≡ form_more form t.head k x (process t (q % most_processes)).altcount = rw j at e in
+        let at-q : q ≡ committed_at x x.place = rw (own, j) at named in
+        let tested : form' ≡ form_more form t.head k x (process t (q % most_processes)).altcount = rw (other, own, j) at e in
         let partner : process_fits t.head.n t.head.nap k x (process t (q % most_processes)).altcount ≡ process_fits t.head.n t.head.nap k x (process t (partner_of x)).altcount =
         rw at-q (fits-committed t.head.n t.head.nap k x (λ j. (process t (j % most_processes)).altcount) ∙ partner-read t k x c) in
-        tested ∙ rw (f.so_far c, add-one, partner) refl
+        tested ∙ rw (f.so_far c, add-one) (more-same (form_below t k) t.head k x _ _ partner)
 
 -- the open offers of the processes below k
 abbrev pub open_below : ProcessTable → ℕ → ℕ
 open_below t k = count_below (λ p. is_open (process t p)) k
 
--- each has taken one of the tickets given out, as far as these go
-below_left : (t : ProcessTable) (k : ℕ) → (form_below t k).left ≡ t.head.next.0 - open_below t k
-unfolding form_below count_below
-below_left t zero = omega arith
-below_left t (suc k) = omega (arith, below_left t k)
-
--- the head fits and the processes below k do, and their open offers are no more than the tickets given out
-record Below (t : ProcessTable) (k : ℕ) : Type 0 where
+-- the head fits and the processes below k do, and each of their open offers has taken one of the tickets given out
+record Below (t : ProcessTable) (k left : ℕ) : Type 0 where
   head : (count_fits t.head.n && nap_fits t.head.nap) ≡ true
   fitted : all_below (fits_at t) k ≡ true
-  enough : open_below t k ≤ t.head.next.0
+  taken : left + open_below t k ≡ t.head.next.0
 
-below_parts : (t : ProcessTable) (k : ℕ) → (form_below t k).fits ≡ true → Below t k
-unfolding form_below all_below fits_at count_below
-below_parts t zero e = record { head = e; fitted = refl; enough = omega arith }
-below_parts t (suc k) e =
-    let a = and_parts (form_below t k).fits _ e in
-    let b = and_parts (fits_at t k) _ a.1 in
-    let l = below_parts t k a.0 in
-    let o : cond (is_open (process t k)) 1 0 ≤ (form_below t k).left = leb-true _ _ b.1 in
-    record { head = l.head; fitted = both _ _ l.fitted b.0; enough = omega (arith, l.enough, below_left t k, o) }
+some-passed : (b : Bool) (m n : ℕ) → then_some b m ≡ Some n → (b ≡ true) × (m ≡ n)
+some-passed true m n e = (refl, cc)
+some-passed false m n e = absurd (let z : ◌≡◌ {A = ℕ} 0 1 = cc in omega arith)
 
-below-fits : (t : ProcessTable) (k : ℕ) → Below t k → (form_below t k).fits ≡ true
+below_parts : (t : ProcessTable) (k left : ℕ) → form_below t k ≡ Some left → Below t k left
 unfolding form_below all_below fits_at count_below
-below-fits t zero l = l.head
-below-fits t (suc k) l =
+below_parts t zero left e = let a = some-passed _ _ _ e in record { head = a.0; fitted = refl; taken = omega (arith, a.1) }
+below_parts t (suc k) left e = go (form_below t k) (below_parts t k) e
+  where
+    x : Process
+    x = process t k
+
+    go : (form : Form) → ((before : ℕ) → form ≡ Some before → Below t k before) → form_more form t.head k x (process t (partner_of x)).altcount ≡ Some left → Below t (suc k) left
+    go None l e = absurd (let z : ◌≡◌ {A = ℕ} 0 1 = cc in omega arith)
+    go (Some before) f e =
+        let a = some-passed _ _ _ e in
+        let b = and_parts (fits_at t k) _ a.0 in
+        let l = f before refl in
+        record { head = l.head; fitted = both _ _ l.fitted b.0; taken = omega (arith, l.taken, a.1, leb-true _ before b.1) }
+
+below-fits : (t : ProcessTable) (k left : ℕ) → Below t k left → form_below t k ≡ Some left
+unfolding form_below all_below fits_at count_below
+below-fits t zero left l = rw l.head (ap Some (omega (arith, l.taken)))
+below-fits t (suc k) left l =
+    let taken : ℕ = cond (is_open (process t k)) 1 0 in
     let a = and_parts (all_below (fits_at t) k) _ l.fitted in
-    let o : cond (is_open (process t k)) 1 0 ≤ (form_below t k).left = omega (arith, l.enough, below_left t k) in
-    both _ _ (below-fits t k (record { head = l.head; fitted = a.0; enough = omega (arith, l.enough) })) (both _ _ a.1 (le-leb _ _ o))
+    let before = below-fits t k (left + taken) (record { head = l.head; fitted = a.0; taken = omega (arith, l.taken) }) in
+    rw (before, a.1, le-leb taken (left + taken) (omega arith)) (ap Some (omega arith))
 
 pub forms-are-well-formed : FormsAreWellFormed
 unfolding well_formed totals_fit
-forms-are-well-formed t = same_test _ _ there back
+forms-are-well-formed t = same_test _ _ (there (form_below t n) refl) back
   where
     n : ℕ
     n = t.head.n
 
-    there : form_end (form_below t n) t.head ≡ true → well_formed t ≡ true
-    there e =
-        let a = and_parts (form_below t n).fits _ e in
-        let l = below_parts t n a.0 in
+    there : (form : Form) → form_below t n ≡ form → form_end form t.head ≡ true → well_formed t ≡ true
+    there None f e = absurd (false≢true e)
+    there (Some left) f e =
+        let l = below_parts t n left f in
         let h = and_parts (count_fits n) _ l.head in
-        let o : 2 * t.head.meetings + t.head.withdrawn ≤ (form_below t n).left = leb-true _ _ a.1 in
-        both _ _ h.0 (both _ _ h.1 (both _ _ l.fitted (le-leb (accounted_for t) t.head.next.0 (omega (arith, l.enough, below_left t n, o)))))
+        both _ _ h.0 (both _ _ h.1 (both _ _ l.fitted (le-leb (accounted_for t) t.head.next.0 (omega (arith, l.taken, leb-true _ left e)))))
 
     back : well_formed t ≡ true → form_end (form_below t n) t.head ≡ true
     back e =
         let a = form-parts t e in
-        both _ _ (below-fits t n (record { head = both _ _ a.counted a.napped; fitted = a.fitted; enough = omega (arith, a.totalled) }))
-        (le-leb (2 * t.head.meetings + t.head.withdrawn) (form_below t n).left (omega (arith, a.totalled, below_left t n)))
-
--- By the end of the test no total overflows: both are at most what is left of the tickets, a number of 32 bits.
-pub form-totals : (form : Form) (h : Head) → form_end form h ≡ true → 2 * h.meetings + h.withdrawn ≤ form.left
-form-totals form h e = leb-true _ _ (and_parts form.fits _ e).1
+        let left : ℕ = t.head.next.0 - open_below t n in
+        rw (below-fits t n left (record { head = both _ _ a.counted a.napped; fitted = a.fitted; taken = omega (arith, a.totalled) }))
+        (le-leb (2 * t.head.meetings + t.head.withdrawn) left (omega (arith, a.totalled)))
 
 -- what the loop has found once it has tested all
 pub form_of : (t : ProcessTable) (k : ℕ) (form : Form) → k ≡ t.head.n → FormAt t k form → FormOf t form

@@ -1,18 +1,18 @@
 -- Laws of the count of open offers.
-use Prim.Native.Nat.{ℕ, zero, suc, ◌+◌, ◌≤◌, ◌<◌}
-use mathlib.Core.Path.{◌≡◌, refl, sym, ap}
-use mathlib.Core.Logic.{⊎_elim}
-use mathlib.Core.Bool.{Bool, true, false, ◌&&◌, cond}
-use native.Mathlib.Nat.{le_of_suc-le-suc, eq-or-lt_of_le}
+use Prim.Native.Nat.{ℕ, zero, suc, ◌+◌, ◌≤◌, min}
+use mathlib.Core.Path.{◌≡◌, refl}
+use mathlib.Core.Bool.{Bool, true, false, cond}
 use native.Mathlib.Numerals.{add-one}
 use native.Mathlib.Omega.{arith}
-use lib.Dec.{ltb}
-use lib.ListN.{length, get_or-eq_default}
-use borrow.Author.Tests.{ltb-true, ltb-false}
-use Rattle.alternative.proofs.Tests.{and_parts}
+use lib.ListN.{length, take, get_or}
+use Rattle.std.proofs.lemmas.List.{take_min}
+use Rattle.std.proofs.lemmas.List.Sums.{sum_by-cons}
+use mathlib.Core.List.{List, [], ◌∷◌}
+use Rattle.std.specs.Prelude.{count_by}
+use Rattle.process.specs.declared.Process.{Process}
 use Rattle.process.specs.Process.{nobody, is_open}
 use Rattle.rendezvous.specs.declared.ProcessTable.{ProcessTable}
-use Rattle.rendezvous.specs.Table.{most_processes, process, count_below, open_offers}
+use Rattle.rendezvous.specs.Table.{process, count_below}
 use Rattle.rendezvous.proofs.Forms.{open_below}
 use Rattle.rendezvous.proofs.Sets.{bit-most}
 
@@ -34,27 +34,26 @@ open_more t k n b e o = rw (next-open t k, e, o) (go (is_open (process t k)))
     go true = refl
     go false = omega arith
 
--- from m on there is no record, and so no open offer
-module _ (t : ProcessTable) (m : ℕ) (h : length t.processes ≤ m) where
-  nobody-there : (p : ℕ) → m ≤ p → is_open (process t p) ≡ false
-  nobody-there p l = ap is_open (get_or-eq_default t.processes nobody {n = p} (omega arith))
+-- the count of a list's first records, from its end or from its start
+from-start : (test : ℕ → Bool) (n : ℕ) → count_below test (suc n) ≡ cond (test 0) 1 0 + count_below (λ p. test (suc p)) n
+unfolding count_below
+from-start test zero = omega arith
+from-start test (suc n) = omega (arith, from-start test n)
 
-  no_more : (n : ℕ) → m ≤ n → open_below t n ≡ open_below t m
-  unfolding count_below
-  no_more zero l = let e : m ≡ 0 = omega arith in rw e
-  no_more (suc n) l =
-      ⊎_elim
-      (λ q. rw q)
-      (λ q. let l' = le_of_suc-le-suc q in rw (nobody-there n l') (omega (arith, no_more n l')))
-      (eq-or-lt_of_le l)
+none-there : (n : ℕ) → count_below (λ p. is_open (get_or [] p nobody)) n ≡ 0
+unfolding count_below
+none-there zero = refl
+none-there (suc n) = omega (arith, none-there n)
 
--- the test of the loop over the records: where it holds, and where it does not, when all are counted
-pub inside : (k n : ℕ) → (ltb k n && ltb k most_processes) ≡ true → (k < n) × (k < most_processes)
-inside k n e = let a = and_parts (ltb k n) (ltb k most_processes) e in (ltb-true k n a.0, ltb-true k most_processes a.1)
+pub count-taken : (xs : List Process) (n : ℕ) → count_by is_open (take n xs) ≡ count_below (λ p. is_open (get_or xs p nobody)) n
+unfolding count_below
+count-taken xs zero = refl
+count-taken [] (suc n) = omega (arith, none-there (suc n))
+count-taken (x ∷ xs) (suc n) =
+    let first : count_by is_open (take (suc n) (x ∷ xs)) ≡ cond (is_open x) 1 0 + count_by is_open (take n xs) = sum_by-cons (λ x. cond (is_open x) 1 0) x (take n xs) in
+    let start : count_below (λ p. is_open (get_or (x ∷ xs) p nobody)) (suc n) ≡ cond (is_open x) 1 0 + count_below (λ p. is_open (get_or xs p nobody)) n = from-start _ n in
+    omega (arith, first, start, count-taken xs n)
 
-pub open-end : (t : ProcessTable) (k : ℕ) → length t.processes ≡ most_processes → k ≤ t.head.n → (ltb k t.head.n && ltb k most_processes) ≡ false → open_below t k ≡ open_offers t
-open-end t k h l e = go (ltb k t.head.n) refl e
-  where
-    go : (b : Bool) → ltb k t.head.n ≡ b → (b && ltb k most_processes) ≡ false → open_below t k ≡ open_offers t
-    go true a f = let m = ltb-false k most_processes f in sym (no_more t k (omega arith) t.head.n l)
-    go false a f = let m = ltb-false k t.head.n a in let same : k ≡ t.head.n = omega arith in rw same
+-- no more than the first m are there
+pub count-most : (xs : List Process) (m n : ℕ) → length xs ≡ m → count_by is_open (take (min n m) xs) ≡ count_below (λ p. is_open (get_or xs p nobody)) n
+count-most xs m n e = rw (← e, take_min n xs) (count-taken xs n)

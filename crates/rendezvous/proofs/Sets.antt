@@ -1,4 +1,5 @@
 -- Sets of numbers below n as bits, for any n: `set_below member n` has bit p exactly where p is below n and a member; and the call that gives such a set.
+use Rattle.std.specs.Prelude.{None, Ok}
 use Prim.Native.Nat.{ℕ, suc, zero, ◌+◌, ◌*◌, ◌^◌, ◌-◌, ◌/◌, ◌%◌, ◌≤◌, ◌<◌}
 use mathlib.Core.Path.{◌≡◌, refl, ap, ◌∙◌}
 use mathlib.Core.Bool.{Bool, true, false, cond}
@@ -53,12 +54,12 @@ bit-of member p (suc n) h =
 pub bit-outside : (member : ℕ → Bool) (p n : ℕ) → n ≤ p → set_below member n / 2 ^ p % 2 ≡ 0
 bit-outside member p n h =
     let less : set_below member n < 2 ^ p = omega (arith, set_below-small member n, pow-le-pow_right {n = 2} (omega arith) h) in
-    let none : set_below member n / 2 ^ p ≡ 0 = div-eq_of_lt less in
-    rw none
+    let None : set_below member n / 2 ^ p ≡ 0 = div-eq_of_lt less in
+    rw None
 
 -- the empty set has no bit, and a set without members is empty
 pub bit-of-none : (p : ℕ) → 0 / 2 ^ p % 2 ≡ 0
-bit-of-none p = let none : 0 / 2 ^ p ≡ 0 = div-eq_of_lt (positive p) in rw none
+bit-of-none p = let None : 0 / 2 ^ p ≡ 0 = div-eq_of_lt (positive p) in rw None
 
 pub none_below : (member : ℕ → Bool) (n : ℕ) → ((p : ℕ) → p < n → member p ≡ false) → set_below member n ≡ 0
 unfolding set_below
@@ -104,6 +105,6 @@ unfolding runnable table_verdict
 runnable-refused t e = rw e
 
 pub runnable-gives : (t : ProcessTable) (set : ℕ) → well_formed t ≡ true → set ≡ set_below (λ p. changes (effect_on t p)) t.head.n
-    → record { answer = Answer.Runnable set; table = t } ≡ runnable t
+    → record { answer = Ok (Answer.Runnable set); table = t } ≡ runnable t
 unfolding runnable table_verdict runnable_set
 runnable-gives t set e f = rw (e, f)

@@ -1,4 +1,5 @@
 -- Laws of a step. The code reads and writes the records at p and q modulo most_processes, which are those of p and its partner where p is a process.
+use Rattle.std.specs.Prelude.{Ok}
 use Prim.Native.Nat.{ℕ, ◌<◌, ◌%◌}
 use mathlib.Core.Path.{◌≡◌, sym}
 use mathlib.Core.Bool.{Bool, true}
@@ -7,7 +8,7 @@ use native.Mathlib.Omega.{arith}
 use borrow.Author.Tests.{lt-ltb}
 use Rattle.process.specs.Rules.{rule, partner_of, changes}
 use Rattle.process.proofs.OnlyTold.{partner-below}
-use Rattle.rendezvous.specs.Types.{ProcessTable, Verdict}
+use Rattle.rendezvous.specs.Types.{Process, ProcessTable}
 use Rattle.rendezvous.specs.Table.{most_processes, process}
 use Rattle.rendezvous.specs.WellFormed.{fits_at, well_formed}
 use Rattle.rendezvous.specs.Refusals.{process_verdict}
@@ -24,7 +25,7 @@ pub record Inside (t : ProcessTable) (p : ℕ) : Type 0 where
   pub own : p % most_processes ≡ p
   pub partner : partner_of (process t p) % most_processes ≡ partner_of (process t p)
 
-pub inside : (t : ProcessTable) (p : ℕ) → process_verdict t p ≡ Verdict.Accepted → Inside t p
+pub inside : (t : ProcessTable) (p : ℕ) → process_verdict t p ≡ Ok tt → Inside t p
 inside t p e =
     let a = process-passed t p e in
     let m = formed-most t a.formed in
@@ -33,16 +34,17 @@ inside t p e =
     let d : partner_of (process t p) < most_processes = omega (arith, b, m) in
     record { own = mod-eq_of_lt c; partner = mod-eq_of_lt d }
 
-pub process-accepted : (t : ProcessTable) (p : ℕ) → well_formed t ≡ true → p < t.head.n → process_verdict t p ≡ Verdict.Accepted
+pub process-accepted : (t : ProcessTable) (p : ℕ) → well_formed t ≡ true → p < t.head.n → process_verdict t p ≡ Ok tt
 unfolding process_verdict
 process-accepted t p e h = rw (e, lt-ltb p t.head.n h)
 
 -- what the code reads of process p tells whether a step changes the table
-pub member-read : (t : ProcessTable) (p q : ℕ) (r : Bool) → well_formed t ≡ true → p < t.head.n → q ≡ partner_of (process t (p % most_processes))
-    → ((d m n : ℕ) → r ≡ changes (rule d m (process t (p % most_processes)) n (process t (q % most_processes)))) → changes (effect_on t p) ≡ r
+pub member-read : (t : ProcessTable) (p q : ℕ) (x y : Process) (r : Bool) → well_formed t ≡ true → p < t.head.n → x ≡ process t (p % most_processes) → q ≡ partner_of x
+    → y ≡ process t (q % most_processes) → ((d m n : ℕ) → r ≡ changes (rule d m x n y)) → changes (effect_on t p) ≡ r
 unfolding effect_on
-member-read t p q r e h f g =
+member-read t p q x y r e h own f other g =
     let i = inside t p (process-accepted t p e h) in
-    let at-q : q ≡ partner_of (process t p) = rw i.own at f in
-    let read : r ≡ changes (rule t.head.nap p (process t (p % most_processes)) q (process t (q % most_processes))) = g t.head.nap p q in
-    sym (rw (i.own, at-q, i.partner) at read)
+    let at-p : x ≡ process t p = rw i.own at own in
+    let at-q : q ≡ partner_of (process t p) = rw at-p at f in
+    let read : r ≡ changes (rule t.head.nap p x q y) = g t.head.nap p q in
+    sym (rw (other, at-p, at-q, i.partner) at read)

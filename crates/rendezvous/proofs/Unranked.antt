@@ -1,4 +1,5 @@
 -- Where no guard that is offered has a rank, no guard of a table has one: a call writes no others into it.
+use Rattle.std.specs.Prelude.{Option, Some, None, Result, Ok, Err, ⊤}
 use Prim.Native.Nat.{ℕ, zero, suc, ◌+◌}
 use mathlib.Core.Path.{◌≡◌, refl, ◌∙◌, ap, subst}
 use mathlib.Core.Bool.{Bool, true, false}
@@ -6,24 +7,23 @@ use mathlib.Core.List.{List, [], ◌∷◌, ◌++◌}
 use lib.ListN.{get_or, take, set, length, replicate}
 use lib.Dec.{ltb}
 use Rattle.alternative.specs.declared.Guard.{Guard}
-use Rattle.alternative.specs.declared.Found.{Found}
 use Rattle.alternative.specs.Guards.{most_guards, blank, kept_match, slots, lent}
 use Rattle.alternative.specs.Ranks.{AllOfRank}
 use Rattle.alternative.proofs.Slots.{blank-past}
 use Rattle.alternative.proofs.Decided.{standing, ranks-decide}
-use Rattle.process.specs.declared.Signal.{Signal}
 use Rattle.process.specs.declared.Place.{Place}
 use Rattle.process.specs.declared.State.{State}
 use Rattle.process.specs.declared.Process.{Process}
 use Rattle.process.specs.Process.{nobody, fresh_process, state_of, own_guard, posted_list}
 use Rattle.process.specs.Rules.{Effect, Neither, Own, Both, scan_from, sleep_at, scan, try, hand_over, absorb, rule_at, rule, partner_of}
 use Rattle.process.proofs.PlaceCases.{if-met}
-use Rattle.rendezvous.specs.Types.{ProcessTable, Refusal, Verdict, Reply}
+use Rattle.rendezvous.specs.Types.{ProcessTable, Refusal, Reply}
 use Rattle.rendezvous.specs.Table.{most_processes, process, put, fresh_table}
 use Rattle.rendezvous.specs.Refusals.{process_verdict, offer_verdict, withdraw_verdict}
 use Rattle.rendezvous.specs.Calls.{refused, if_accepted, entering, offered, offer_list, effect_on, applied, stepped, step, collect, commit_came_first, withdrawn_or_late, withdraw}
 use Rattle.rendezvous.specs.Run.{Call, Offer, Step, Collect, Withdraw, reply_to, table_after, after_all, table_after_all}
 use Rattle.rendezvous.specs.WithoutRanks.{NoRank, NoRanks, AsBefore, CallsWithoutRanks}
+use Rattle.alternative.specs.declared.Message.{Message}
 
 -- all slots of a list have rank 0
 abbrev pub Bare : List Guard → Type 0
@@ -88,16 +88,16 @@ module _ (x y : Process) (own : BareRecord x) (other : BareRecord y) where
   sleep-bare s true = own
   sleep-bare s false = own
 
-  try-bare : (i : ℕ) (accepting : Bool) (found : Found) → BareEffect (try x i y accepting found)
+  try-bare : (i : ℕ) (accepting : Bool) (found : Option ℕ) → BareEffect (try x i y accepting found)
   unfolding scan_from
-  try-bare i true (Found.At j) = (own, other)
-  try-bare i true Found.Missing = own
-  try-bare i false (Found.At j) = own
-  try-bare i false Found.Missing = own
+  try-bare i true (Some j) = (own, other)
+  try-bare i true None = own
+  try-bare i false (Some j) = own
+  try-bare i false None = own
 
-  absorb-bare : (s : Signal) → BareEffect (absorb x s)
-  absorb-bare (Signal.Present j m) = own
-  absorb-bare Signal.Absent = tt
+  absorb-bare : (s : Option (ℕ × Message)) → BareEffect (absorb x s)
+  absorb-bare (Some (j, m)) = own
+  absorb-bare None = tt
 
   at_bare : (d p q : ℕ) (place : Place) → BareEffect (rule_at d p x q y place)
   unfolding scan_from hand_over
@@ -122,9 +122,9 @@ applied-bare t p q Neither bare e = bare
 applied-bare t p q (Own x) bare e = bare-put t p x bare e
 applied-bare t p q (Both x y) bare e = bare-put (put t q y) p x (bare-put t q y bare e.1) e.0
 
-pub if-bare : (v : Verdict) (t : ProcessTable) (reply : Reply) → BareTable t → BareTable reply.table → BareTable (if_accepted v t reply).table
-if-bare Verdict.Accepted t reply bare after = after
-if-bare (Verdict.Refused r) t reply bare after = bare
+pub if-bare : (v : Result ⊤ Refusal) (t : ProcessTable) (reply : Reply) → BareTable t → BareTable reply.table → BareTable (if_accepted v t reply).table
+if-bare (Ok tt) t reply bare after = after
+if-bare (Err r) t reply bare after = bare
 
 module _ (t : ProcessTable) (bare : BareTable t) where
   offer-bare : (p : ℕ) (gs : List Guard) → Bare gs → BareTable (offer_list t p (lent gs)).table

@@ -1,4 +1,5 @@
 -- What a call that is not turned away has passed, and that tests in order either hand on to what follows or stop there.
+use Rattle.std.specs.Prelude.{Result, Ok, Err, ⊤}
 use Prim.Native.Nat.{ℕ, ◌≤◌, ◌<◌}
 use mathlib.Core.Path.{◌≡◌, refl, sym, ◌∙◌}
 use mathlib.Core.Bool.{Bool, true, false, not, ◌&&◌, false≢true}
@@ -14,7 +15,6 @@ use Rattle.alternative.specs.Exchange.{action_holds_nan}
 use Rattle.process.specs.declared.Place.{Place}
 use Rattle.rendezvous.specs.declared.{Head.Head, ProcessTable.ProcessTable}
 use Rattle.rendezvous.specs.declared.Refusal.{Refusal}
-use Rattle.rendezvous.specs.declared.Verdict.{Verdict}
 use Rattle.rendezvous.specs.Table.{last_transaction, process}
 use Rattle.rendezvous.specs.WellFormed.{well_formed}
 use Rattle.alternative.proofs.Tests.{and_parts}
@@ -24,15 +24,15 @@ use Rattle.rendezvous.specs.Refusals.{require, require_guards, process_tests, pr
 use Rattle.rendezvous.specs.Refusals.{withdraw_verdict}
 use Rattle.rendezvous.specs.Calls.{commit_came_first}
 
-never : (r : Refusal) → Verdict.Accepted ≡ Verdict.Refused r → ⊥
+never : (r : Refusal) → ◌≡◌ {A = Result ⊤ Refusal} (Ok tt) (Err r) → ⊥
 never r e = let z : ◌≡◌ {A = ℕ} 0 1 = cc in omega arith
 
 -- a test that was passed, and the rest
-pub passed : (b : Bool) (r : Refusal) (rest : Verdict) → require b r rest ≡ Verdict.Accepted → (b ≡ true) × (rest ≡ Verdict.Accepted)
+pub passed : (b : Bool) (r : Refusal) (rest : Result ⊤ Refusal) → require b r rest ≡ Ok tt → (b ≡ true) × (rest ≡ Ok tt)
 passed true r rest e = (refl, e)
 passed false r rest e = absurd (never r (sym e))
 
-pub guards-passed : (n p : ℕ) (gs : List Guard) (rest : Verdict) → require_guards n p gs rest ≡ Verdict.Accepted → (all_guards (partner_fits n p) gs ≡ true) × (rest ≡ Verdict.Accepted)
+pub guards-passed : (n p : ℕ) (gs : List Guard) (rest : Result ⊤ Refusal) → require_guards n p gs rest ≡ Ok tt → (all_guards (partner_fits n p) gs ≡ true) × (rest ≡ Ok tt)
 unfolding require_guards all_guards
 guards-passed n p [] rest e = (refl, e)
 guards-passed n p (g ∷ gs) rest e =
@@ -45,7 +45,7 @@ pub record Named (t : ProcessTable) (p : ℕ) : Type 0 where
   pub formed : well_formed t ≡ true
   pub below : p < t.head.n
 
-pub process-passed : (t : ProcessTable) (p : ℕ) → process_verdict t p ≡ Verdict.Accepted → Named t p
+pub process-passed : (t : ProcessTable) (p : ℕ) → process_verdict t p ≡ Ok tt → Named t p
 unfolding process_verdict
 process-passed t p e =
     let a = passed (well_formed t) Refusal.NotWellFormed _ e in
@@ -63,8 +63,8 @@ pub record Passed (form : Bool) (h : Head) (p : ℕ) (list : GuardList) (place :
   pub idle : is_idle place ≡ true
   pub left : h.next.0 < last_transaction
 
-pub tests-passed : (formed : Bool) (h : Head) (p : ℕ) (list : GuardList) (place : Place) (verdict : Verdict)
-    → verdict ≡ offer_tests formed h p list place → verdict ≡ Verdict.Accepted → Passed formed h p list place
+pub tests-passed : (formed : Bool) (h : Head) (p : ℕ) (list : GuardList) (place : Place) (verdict : Result ⊤ Refusal)
+    → verdict ≡ offer_tests formed h p list place → verdict ≡ Ok tt → Passed formed h p list place
 unfolding list_verdict state_verdict
 tests-passed formed h p list place verdict asked e =
     let a = passed formed Refusal.NotWellFormed _ (sym asked ∙ e) in
@@ -89,7 +89,7 @@ tests-passed formed h p list place verdict asked e =
 abbrev pub Admitted : ProcessTable → ℕ → GuardList → Type 0
 Admitted t p list = Passed (well_formed t) t.head p list (process t p).place
 
-pub offer-passed : (t : ProcessTable) (p : ℕ) (list : GuardList) → offer_verdict t p list ≡ Verdict.Accepted → Admitted t p list
+pub offer-passed : (t : ProcessTable) (p : ℕ) (list : GuardList) → offer_verdict t p list ≡ Ok tt → Admitted t p list
 unfolding offer_verdict
 offer-passed t p list e = tests-passed (well_formed t) t.head p list (process t p).place (offer_verdict t p list) refl e
 
@@ -98,7 +98,7 @@ pub record Busy (t : ProcessTable) (p : ℕ) : Type 0 where
   pub below : p < t.head.n
   pub elsewhere : not (is_at "IM" (process t p).place) ≡ true
 
-pub withdraw-passed : (t : ProcessTable) (p : ℕ) → withdraw_verdict t p ≡ Verdict.Accepted → Busy t p
+pub withdraw-passed : (t : ProcessTable) (p : ℕ) → withdraw_verdict t p ≡ Ok tt → Busy t p
 unfolding withdraw_verdict
 withdraw-passed t p e =
     let a = passed (well_formed t) Refusal.NotWellFormed _ e in
@@ -121,15 +121,15 @@ first-closed Place.Waiting accepting e = refl
 first-closed (Place.Met i m) accepting e = absurd (false≢true e)
 
 -- Tests in order: all hand on to the verdict that follows, or one stops there whatever follows.
-pub data Tests (F : Verdict → Verdict) : Type 0 where
-  pass : ((rest : Verdict) → F rest ≡ rest) → Tests F
-  stop : (r : Refusal) → ((rest : Verdict) → F rest ≡ Verdict.Refused r) → Tests F
+pub data Tests (F : Result ⊤ Refusal → Result ⊤ Refusal) : Type 0 where
+  pass : ((rest : Result ⊤ Refusal) → F rest ≡ rest) → Tests F
+  stop : (r : Refusal) → ((rest : Result ⊤ Refusal) → F rest ≡ Err r) → Tests F
 
 require-tests : (b : Bool) (r : Refusal) → Tests (require b r)
 require-tests true r = pass (λ rest. refl)
 require-tests false r = stop r (λ rest. refl)
 
-then-tests : (F G : Verdict → Verdict) → Tests F → Tests G → Tests (λ rest. F (G rest))
+then-tests : (F G : Result ⊤ Refusal → Result ⊤ Refusal) → Tests F → Tests G → Tests (λ rest. F (G rest))
 then-tests F G (pass f) (pass g) = pass (λ rest. f (G rest) ∙ g rest)
 then-tests F G (pass f) (stop r g) = stop r (λ rest. f (G rest) ∙ g rest)
 then-tests F G (stop r f) g = stop r (λ rest. f (G rest))
@@ -151,28 +151,28 @@ list-tests n p list =
     (then-tests _ _ (guards-tests n p (take list.count list.guards))
     (require-tests (any_guard (λ g. g.enabled) (take list.count list.guards)) Refusal.NoneEnabled))
 
-all_pass : (F : Verdict → Verdict) → Tests F → F Verdict.Accepted ≡ Verdict.Accepted → (rest : Verdict) → F rest ≡ rest
+all_pass : (F : Result ⊤ Refusal → Result ⊤ Refusal) → Tests F → F (Ok tt) ≡ Ok tt → (rest : Result ⊤ Refusal) → F rest ≡ rest
 all_pass F (pass f) e rest = f rest
-all_pass F (stop r f) e rest = absurd (never r (sym e ∙ f Verdict.Accepted))
+all_pass F (stop r f) e rest = absurd (never r (sym e ∙ f (Ok tt)))
 
-one-stops : (F : Verdict → Verdict) → Tests F → (r : Refusal) → F Verdict.Accepted ≡ Verdict.Refused r → (rest : Verdict) → F rest ≡ Verdict.Refused r
-one-stops F (pass f) r e rest = absurd (never r (sym (f Verdict.Accepted) ∙ e))
-one-stops F (stop q f) r e rest = f rest ∙ sym (f Verdict.Accepted) ∙ e
+one-stops : (F : Result ⊤ Refusal → Result ⊤ Refusal) → Tests F → (r : Refusal) → F (Ok tt) ≡ Err r → (rest : Result ⊤ Refusal) → F rest ≡ Err r
+one-stops F (pass f) r e rest = absurd (never r (sym (f (Ok tt)) ∙ e))
+one-stops F (stop q f) r e rest = f rest ∙ sym (f (Ok tt)) ∙ e
 
-pub guards-pass : (n p : ℕ) (gs : List Guard) (rest : Verdict) → Verdict.Accepted ≡ require_guards n p gs Verdict.Accepted → require_guards n p gs rest ≡ rest
+pub guards-pass : (n p : ℕ) (gs : List Guard) (rest : Result ⊤ Refusal) → Ok tt ≡ require_guards n p gs (Ok tt) → require_guards n p gs rest ≡ rest
 guards-pass n p gs rest e = all_pass (require_guards n p gs) (guards-tests n p gs) (sym e) rest
 
-pub guards-stop : (n p : ℕ) (gs : List Guard) (r : Refusal) (rest : Verdict) → Verdict.Refused r ≡ require_guards n p gs Verdict.Accepted → require_guards n p gs rest ≡ Verdict.Refused r
+pub guards-stop : (n p : ℕ) (gs : List Guard) (r : Refusal) (rest : Result ⊤ Refusal) → Err r ≡ require_guards n p gs (Ok tt) → require_guards n p gs rest ≡ Err r
 guards-stop n p gs r rest e = one-stops (require_guards n p gs) (guards-tests n p gs) r (sym e) rest
 
-pub list-pass : (n p : ℕ) (list : GuardList) (rest : Verdict) → Verdict.Accepted ≡ list_verdict n p list Verdict.Accepted → list_verdict n p list rest ≡ rest
+pub list-pass : (n p : ℕ) (list : GuardList) (rest : Result ⊤ Refusal) → Ok tt ≡ list_verdict n p list (Ok tt) → list_verdict n p list rest ≡ rest
 list-pass n p list rest e = all_pass (list_verdict n p list) (list-tests n p list) (sym e) rest
 
-pub list-stop : (n p : ℕ) (list : GuardList) (r : Refusal) (rest : Verdict) → Verdict.Refused r ≡ list_verdict n p list Verdict.Accepted → list_verdict n p list rest ≡ Verdict.Refused r
+pub list-stop : (n p : ℕ) (list : GuardList) (r : Refusal) (rest : Result ⊤ Refusal) → Err r ≡ list_verdict n p list (Ok tt) → list_verdict n p list rest ≡ Err r
 list-stop n p list r rest e = one-stops (list_verdict n p list) (list-tests n p list) r (sym e) rest
 
-pub process-pass : (formed : Bool) (n p : ℕ) (rest : Verdict) → Verdict.Accepted ≡ process_tests formed n p Verdict.Accepted → process_tests formed n p rest ≡ rest
+pub process-pass : (formed : Bool) (n p : ℕ) (rest : Result ⊤ Refusal) → Ok tt ≡ process_tests formed n p (Ok tt) → process_tests formed n p rest ≡ rest
 process-pass formed n p rest e = all_pass (process_tests formed n p) (process-tests formed n p) (sym e) rest
 
-pub process-stop : (formed : Bool) (n p : ℕ) (r : Refusal) (rest : Verdict) → Verdict.Refused r ≡ process_tests formed n p Verdict.Accepted → process_tests formed n p rest ≡ Verdict.Refused r
+pub process-stop : (formed : Bool) (n p : ℕ) (r : Refusal) (rest : Result ⊤ Refusal) → Err r ≡ process_tests formed n p (Ok tt) → process_tests formed n p rest ≡ Err r
 process-stop formed n p r rest e = one-stops (process_tests formed n p) (process-tests formed n p) r (sym e) rest

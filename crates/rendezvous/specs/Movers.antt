@@ -1,5 +1,5 @@
 -- To be believed. Document 01, "Calls": movers; and, as a claim about the definitions, what the set tells of the steps and of rest.
-use Rattle.std.specs.Prelude.{◌/◌, ◌%◌, ◌+◌, ◌^◌, ◌≡◌}
+use Rattle.std.specs.Prelude.{◌/◌, ◌%◌, ◌+◌, ◌^◌, ◌≡◌, Ok}
 use Rattle.process.specs.Rules.{changes}
 use Rattle.rendezvous.specs.Types.{ℕ, zero, suc, Bool, true, cond, ProcessTable, Answer, Reply}
 use Rattle.rendezvous.specs.WellFormed.{well_formed}
@@ -15,7 +15,7 @@ unfoldable pub runnable_set : ProcessTable → ℕ
 runnable_set t = set_below (λ p. changes (effect_on t p)) t.head.n
 
 unfoldable pub runnable : ProcessTable → Reply
-runnable t = if_accepted (table_verdict t) t (record { answer = Answer.Runnable (runnable_set t); table = t })
+runnable t = if_accepted (table_verdict t) t (record { answer = Ok (Answer.Runnable (runnable_set t)); table = t })
 
 abbrev pub bit : ℕ → ℕ → ℕ
 bit p set = set / 2 ^ p % 2

@@ -1,6 +1,7 @@
 -- To be believed. Document 01's numbers and values for each case of an answer, and those of CRs 1 and 3 of document 02.
+use Rattle.std.specs.Prelude.{Option, Result, Ok, Err}
 use Rattle.process.specs.Process.{letter_of, index_of}
-use Rattle.rendezvous.specs.Types.{ℕ, Option, Message, Refusal, Answer}
+use Rattle.rendezvous.specs.Types.{ℕ, Message, Refusal, Answer}
 
 -- "What turns a call away"; 14 is CR 1's, 15 is CR 3's
 abbrev pub refusal_number : Refusal → ℕ
@@ -29,13 +30,13 @@ pub data Said : Type 0 where
   movers : ℕ → Said
   refusal : ℕ → Said
 
-abbrev pub said : Answer → Said
-said Answer.Made = made
-said (Answer.Offered t) = ticket t.0
-said (Answer.Moved at) = place (letter_of at) (index_of at)
-said Answer.Unchanged = same
-said (Answer.Collected i q m) = outcome i q m
-said Answer.Withdrawn = withdrawn
-said Answer.TooLate = too_late
-said (Answer.Runnable set) = movers set
-said (Answer.Refused r) = refusal (refusal_number r)
+abbrev pub said : Result Answer Refusal → Said
+said (Ok Answer.Made) = made
+said (Ok (Answer.Offered t)) = ticket t.0
+said (Ok (Answer.Moved at)) = place (letter_of at) (index_of at)
+said (Ok Answer.Unchanged) = same
+said (Ok (Answer.Collected i q m)) = outcome i q m
+said (Ok Answer.Withdrawn) = withdrawn
+said (Ok Answer.TooLate) = too_late
+said (Ok (Answer.Runnable set)) = movers set
+said (Err r) = refusal (refusal_number r)

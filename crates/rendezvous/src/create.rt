@@ -4,7 +4,7 @@ ghost use Rattle.rendezvous.specs.Table.{fresh_head, fresh_table};
 ghost use Rattle.rendezvous.specs.Calls.{create};
 
 use crate::refusals::create_verdict;
-use crate::{Answer, Head, MOST_PROCESSES, ProcessTable, Reply, Verdict};
+use crate::{Answer, Head, MOST_PROCESSES, ProcessTable, Reply};
 use process::{TransactionId, fresh_process};
 
 // The head of a fresh table of n processes with naps of `nap` own steps.
@@ -12,8 +12,8 @@ pub fn fresh_head(n: u8, nap: u8) -> Head
     ensures { result ≡ fresh_head n nap }
 {
     Head {
-        n: n,
-        nap: nap,
+        n,
+        nap,
         next: TransactionId(0),
         meetings: 0,
         withdrawn: 0,
@@ -23,11 +23,9 @@ pub fn fresh_head(n: u8, nap: u8) -> Head
 fn fresh_table(n: u8, nap: u8) -> ProcessTable
     ensures { result ≡ fresh_table n nap }
 {
-    let process = fresh_process();
-    let processes = [process; MOST_PROCESSES as usize];
     ProcessTable {
         head: fresh_head(n, nap),
-        processes: processes,
+        processes: [fresh_process(); MOST_PROCESSES as usize],
     }
 }
 
@@ -36,19 +34,14 @@ impl ProcessTable {
     pub fn create(n: u8, nap: u8) -> Reply
         ensures { result ≡ create n nap }
     {
-        let mut answer = Answer::Made;
         let mut table = fresh_table(n, nap);
-        match create_verdict(n, nap) {
-            Verdict::Accepted => {}
-            Verdict::Refused(refusal) => {
-                let head = fresh_head(0, 0);
-                answer = Answer::Refused(refusal);
-                table.head = head;
+        let answer = match create_verdict(n, nap) {
+            Ok(()) => Ok(Answer::Made),
+            Err(refusal) => {
+                table.head = fresh_head(0, 0);
+                Err(refusal)
             }
-        }
-        Reply {
-            answer: answer,
-            table: table,
-        }
+        };
+        Reply { answer, table }
     }
 }

@@ -11,7 +11,6 @@ impl ProcessTable {
     pub fn offer(self, p: u8, guards: &[Guard]) -> Reply
         ensures { result ≡ offer self p guards.now }
     {
-        let list = copied(guards);
-        self.offer_list(p, list)
+        self.offer_list(p, copied(guards))
     }
 }

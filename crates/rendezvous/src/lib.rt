@@ -8,9 +8,10 @@ ghost use Rattle.rendezvous.specs.Withdrawals.{WithdrawsOpen};
 ghost use Rattle.rendezvous.specs.WithoutRanks.{CallsWithoutRanks};
 
 use alternative::Message;
-use process::{Place, Process, Signal, TransactionId};
+use process::{Place, Process, Told, TransactionId};
 
 mod acts;
+mod carrying_out;
 mod collect;
 mod create;
 mod lending;
@@ -54,41 +55,29 @@ pub struct ProcessTable {
 // A set of processes: bit p for process p.
 pub type ProcessSet = u32;
 
-// What is known of a table's form where some of its records are tested: whether its head and these fit, and how many of the tickets
-// given out their open offers have left.
-#[derive(Clone, Copy)]
-pub struct Form {
-    pub fits: bool,
-    pub left: u32,
-}
+// What is known of a table's form where some of its records are tested: while its head and these fit, how many of the tickets given out
+// their open offers have left.
+pub type Form = Option<u32>;
 
-// Why a call is turned away. The definition `refusal_number` gives the documents' number of each.
+// Why a call is turned away, each by the documents' number.
 #[derive(Clone, Copy)]
 pub enum Refusal {
-    ProcessCount,
-    NotWellFormed,
-    NoSuchProcess,
-    GuardCount,
-    Partner,
-    NotANumber,
-    NoneEnabled,
-    NotIdle,
-    LastTransaction,
-    NotMet,
-    NothingToWithdraw,
-    NapLength,
-}
-
-// Whether a call is turned away.
-#[derive(Clone, Copy)]
-pub enum Verdict {
-    Accepted,
-    Refused(Refusal),
+    ProcessCount = 1,
+    NoSuchProcess = 2,
+    GuardCount = 3,
+    Partner = 4,
+    NotANumber = 5,
+    NoneEnabled = 6,
+    NotWellFormed = 7,
+    NotIdle = 11,
+    LastTransaction = 12,
+    NotMet = 13,
+    NothingToWithdraw = 14,
+    NapLength = 15,
 }
 
 // What a call says: a table was made; the ticket of an offer; the new place of a step, or that nothing changed; the guard index,
-// partner and message of a collection; that an offer is withdrawn, or that a commit came first; the set of processes that can move;
-// or a refusal.
+// partner and message of a collection; that an offer is withdrawn, or that a commit came first; the set of processes that can move.
 #[derive(Clone, Copy)]
 pub enum Answer {
     Made,
@@ -99,25 +88,21 @@ pub enum Answer {
     Withdrawn,
     TooLate,
     Runnable(ProcessSet),
-    Refused(Refusal),
 }
 
-// What a call of one process does: its answer, the table's head, the record of the process, and, where the process tells its
-// partner something, the partner's wake count and signal.
+// What a call of one process does: its answer, the table's head, the record of the process, and what it tells its partner, if anything.
 #[derive(Clone, Copy)]
 pub struct Act {
-    pub answer: Answer,
+    pub answer: Result<Answer, Refusal>,
     pub head: Head,
     pub own: Process,
-    pub told: bool,
-    pub accepting: bool,
-    pub signal: Signal,
+    pub told: Option<Told>,
 }
 
 // An answer, and the table that the call hands back.
 #[derive(Clone, Copy)]
 pub struct Reply {
-    pub answer: Answer,
+    pub answer: Result<Answer, Refusal>,
     pub table: ProcessTable,
 }
 

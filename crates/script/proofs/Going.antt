@@ -1,8 +1,8 @@
 -- The loop over a piece: what is filled, and what is still to be fed, together make what the whole piece prints.
+use Rattle.std.specs.Prelude.{Option}
 use Prim.Native.Nat.{ℕ, ◌+◌, ◌*◌, ◌≤◌, ◌<◌}
 use mathlib.Core.Path.{◌≡◌, refl, sym, ap, ◌∙◌}
 use mathlib.Core.List.{List, [], ◌∷◌, ◌++◌, append_assoc, append-nil}
-use mathlib.Core.Option.{Option}
 use native.Mathlib.Numerals.{add-one}
 use native.Mathlib.Omega.{arith}
 use lib.ListN.{length, take, drop, get_or, length-append, length-take, length-drop, drop_of_length-le, take-append-drop}
@@ -68,6 +68,10 @@ module _ (s₀ : SessionState) (input out₀ : List ℕ) (s : SessionState) (i :
         room = omega (arith, g.room);
         long = rw o (simp (length-append, length-take, length-drop) (omega (arith, g.long)));
       }
+
+-- what a turn prints and leaves is the turn
+pub turn-is : (t : Turn) (text : List ℕ) (table : Option ProcessTable) → text ≡ t.prints → table ≡ t.table → ◌≡◌ {A = Turn} (record { prints = text; table = table }) t
+turn-is t text table e f = rw (e, f)
 
 -- all of the input is fed
 pub record GoneAll (s₀ : SessionState) (input out₀ : List ℕ) (s : SessionState) (out : List ℕ) (filled : ℕ) : Type 0 where

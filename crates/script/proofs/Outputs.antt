@@ -1,27 +1,20 @@
--- Laws of a text that is copied into the output byte by byte.
-use Prim.Native.Nat.{ℕ, ◌+◌, ◌≤◌, ◌<◌, min}
-use mathlib.Core.Path.{◌≡◌}
-use mathlib.Core.List.{List, ◌++◌}
-use native.Mathlib.Numerals.{add-one}
-use native.Mathlib.Omega.{arith}
-use lib.ListN.{length, take, drop, get_or, set, length-take}
-use lib.Seq.{paste, paste-suc}
+-- Laws of a text that is copied into the output.
+use Prim.Native.Nat.{ℕ, ◌+◌, ◌≤◌}
+use mathlib.Core.Path.{◌≡◌, refl}
+use mathlib.Core.List.{List, ◌++◌, append_assoc}
+use lib.ListN.{length, take, drop}
+use lib.Seq.{drop-drop}
 use borrow.Author.Tests.{le-leb}
 use Rattle.text.specs.Writing.{line_length}
 use Rattle.script.specs.Private.{put_at, put_end}
-use Rattle.script.proofs.Lists.{take-most}
 
-pub copied_more : (out₀ out : List ℕ) (at : ℕ) (bytes : List ℕ) (k : ℕ) → at + k < length out₀ → k < length bytes → out ≡ paste out₀ at bytes k
-    → set out (at + k) (get_or bytes k 0) ≡ paste out₀ at bytes (k + 1)
-copied_more out₀ out at bytes k h i e = rw (e, add-one) (paste-suc out₀ at bytes k 0 h i)
-
-pub copied_all : (out₀ out : List ℕ) (at : ℕ) (bytes : List ℕ) (n count k : ℕ) → length bytes ≡ line_length → count ≡ min n line_length → k ≡ count → out ≡ paste out₀ at bytes k → at + line_length ≤ length out₀
-    → (at + count ≡ put_end at (take n bytes) out₀) × (out ≡ put_at at (take n bytes) out₀)
-copied_all out₀ out at bytes n count k e f h g room =
-    let s : take count bytes ≡ take n bytes = rw f (take-most bytes n line_length e) in
-    let end : at + count ≡ at + length (take n bytes) = rw (← s) (simp length-take (omega arith)) in
-    let all : out ≡ take at out₀ ++ take n bytes ++ drop (at + count) out₀ = rw (← s, ← h) g in
-    (rw (le-leb (at + line_length) (length out₀) room) end, rw (le-leb (at + line_length) (length out₀) room, ← end) all)
+-- the text is copied into the output
+pub copied_all : (at : ℕ) (text bytes out : List ℕ) (end n : ℕ) → bytes ≡ text → at + line_length ≤ length out → end ≡ at + length bytes → n ≡ length bytes
+    → (end ≡ put_end at text out) × (take at out ++ (bytes ++ drop n (drop at out)) ≡ put_at at text out)
+copied_all at text bytes out end n e room f g =
+    let yes = le-leb (at + line_length) (length out) room in
+    let long : length bytes ≡ length text = rw e refl in
+    (rw (yes, ← long) f, rw (yes, g, e, drop-drop (length text) at out, append_assoc (take at out) text (drop (at + length text) out)) refl)
 
 -- where there is room, the text is put
 pub put-end : (at : ℕ) (text out : List ℕ) (end : ℕ) → at + line_length ≤ length out → end ≡ put_end at text out → end ≡ at + length text

@@ -1,7 +1,6 @@
 -- To be believed. The program takes its input in pieces, as the reads happen to cut it: what a piece prints, and the claim that the pieces together print `output`.
-use Rattle.std.specs.Prelude.{ℕ, ◌≡◌, Bool, cond, take, eqb}
+use Rattle.std.specs.Prelude.{ℕ, ◌≡◌, cond, take, eqb, Option, None}
 use mathlib.Core.List.{List, [], ◌∷◌, ◌++◌, flatten}
-use Rattle.std.proofs.Math.Option.{Option, some, none}
 use Rattle.script.specs.Types.{ProcessTable, Session}
 use Rattle.script.specs.Printing.{end_of_line}
 use Rattle.script.specs.Lines.{Ended, lines_from, begun_length, line_command}
@@ -13,14 +12,11 @@ pub record SessionState : Type 0 where
   pub table : Option ProcessTable
 
 abbrev pub start : SessionState
-start = record { begun = []; table = none }
+start = record { begun = []; table = None }
 
 -- .. as the code holds them
-abbrev pub table_if : Bool → ProcessTable → Option ProcessTable
-table_if made table = cond made (some table) none
-
 abbrev pub state_held : Session → SessionState
-state_held s = record { begun = take s.length s.bytes; table = table_if s.made s.table }
+state_held s = record { begun = take s.length s.bytes; table = s.table }
 
 -- What a piece prints, and the state after it.
 pub record After : Type 0 where

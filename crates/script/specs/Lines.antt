@@ -1,6 +1,5 @@
--- To be believed. Document 01, "The script program": the lines of an input, and the command of a line; `none` where the line is malformed.
-use Rattle.std.specs.Prelude.{ℕ, suc, cond, List, [], ◌∷◌, ◌++◌, length, eqb, leb}
-use Rattle.std.proofs.Math.Option.{Option, none}
+-- To be believed. Document 01, "The script program": the lines of an input, and the command of a line; `None` where the line is malformed.
+use Rattle.std.specs.Prelude.{ℕ, suc, cond, List, [], ◌∷◌, ◌++◌, length, eqb, leb, Option, None}
 use Rattle.command.specs.Commands.{command_of}
 use Rattle.script.specs.Types.{Command}
 use Rattle.script.specs.Printing.{end_of_line}
@@ -29,5 +28,5 @@ begun_length = suc most_bytes
 
 -- "Anything else, an overlong line (skipped to its end), .. or an unended last line gives 8."
 unfoldable pub line_command : Line → Option Command
-line_command (Ended line) = cond (leb (length line) most_bytes) (command_of line) none
-line_command Unended = none
+line_command (Ended line) = cond (leb (length line) most_bytes) (command_of line) None
+line_command Unended = None

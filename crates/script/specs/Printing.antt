@@ -1,7 +1,6 @@
 -- To be believed. Document 01, "The script program", and CR 1 of document 02: the line that is printed for a command and what its call says.
-use Rattle.std.specs.Prelude.{ℕ, List, [], ◌∷◌, ◌++◌}
+use Rattle.std.specs.Prelude.{ℕ, List, [], ◌∷◌, ◌++◌, Some, None}
 use Prim.Native.Char.{code}
-use Rattle.std.proofs.Math.Option.{some, none}
 use Rattle.std.specs.Float.{binary32}
 use Rattle.std.specs.Float.Ieee.{to_bits}
 use Rattle.text.specs.Writing.{decimal_text, whole_text, hex_text}
@@ -37,8 +36,8 @@ command_text Movers = code "m" ∷ []
 unfoldable pub answer_text : List ℕ → Said → List ℕ
 answer_text command made = command
 answer_text command (ticket t) = command ++ field (code "t" ∷ decimal_text t)
-answer_text command (place letter none) = command ++ field (letter ∷ [])
-answer_text command (place letter (some i)) = command ++ field (letter ∷ decimal_text i)
+answer_text command (place letter None) = command ++ field (letter ∷ [])
+answer_text command (place letter (Some i)) = command ++ field (letter ∷ decimal_text i)
 answer_text command same = command ++ field (code "=" ∷ [])
 answer_text command (outcome i q m) = command ++ field (decimal_text i) ++ field (decimal_text q) ++ field (message_text m)
 answer_text command withdrawn = command ++ field (code "o" ∷ code "k" ∷ [])

@@ -1,57 +1,57 @@
 -- Not to be believed: what inner contracts cite; no contract of a public function does.
-use Rattle.std.specs.Prelude.{ℕ, ◌+◌, Bool, true, false, ◌||◌, cond, List, [], ◌∷◌, ◌++◌, length, take, drop, leb}
+use Rattle.std.specs.Prelude.{ℕ, ◌+◌, cond, List, [], ◌∷◌, ◌++◌, length, take, drop, leb, Option, Some, None, Result, is_err}
 use Prim.Native.Char.{code}
 use Rattle.text.specs.Writing.{decimal_text, line_length}
-use Rattle.command.specs.declared.Verb.{Verb}
-use Rattle.command.specs.declared.Parsed.{Parsed}
-use Rattle.command.specs.InCode.{plain}
+use Rattle.command.specs.declared.Call.{Call as CallInCode}
+use Rattle.command.specs.declared.Command.{Command as InCode}
 use Rattle.rendezvous.specs.declared.Act.{Act}
-use Rattle.rendezvous.specs.declared.Form.{Form}
+use Rattle.rendezvous.specs.Forms.{Form}
 use Rattle.rendezvous.specs.declared.Head.{Head}
 use Rattle.rendezvous.specs.Types.{Process}
-use Rattle.rendezvous.specs.Calls.{create}
-use Rattle.rendezvous.specs.Acts.{alone, offer_act, step_act, collect_act, withdraw_act}
+use Rattle.rendezvous.specs.Calls.{create, offer_list, step, collect, withdraw}
+use Rattle.rendezvous.specs.Movers.{runnable}
+use Rattle.rendezvous.specs.Acts.{offer_act, step_act, collect_act, withdraw_act}
 use Rattle.rendezvous.specs.Numbers.{said}
-use Rattle.script.specs.Types.{GuardList, ProcessTable, Answer, Reply}
-use Rattle.script.specs.Printing.{field, refusal_text, answer_text, ended}
-use Rattle.script.specs.Session.{is_refused}
+use Rattle.script.specs.Types.{ProcessTable, Answer, Reply}
+use Rattle.script.specs.Printing.{field, answer_text, ended}
+use Rattle.rendezvous.specs.declared.Refusal.{Refusal}
 
--- a command that makes a table, and one that asks for the movers
-abbrev pub is_new : Verb → Bool
-is_new Verb.New = true
-is_new Verb.Malformed = false
-is_new Verb.Offer = false
-is_new Verb.Step = false
-is_new Verb.Collect = false
-is_new Verb.Withdraw = false
-is_new Verb.Movers = false
+-- the process that a call is of
+abbrev pub process_of : CallInCode → ℕ
+process_of (CallInCode.Offer p list) = p
+process_of (CallInCode.Step p) = p
+process_of (CallInCode.Collect p) = p
+process_of (CallInCode.Withdraw p) = p
 
-abbrev pub is_movers : Verb → Bool
-is_movers Verb.Movers = true
-is_movers Verb.New = false
-is_movers Verb.Malformed = false
-is_movers Verb.Offer = false
-is_movers Verb.Step = false
-is_movers Verb.Collect = false
-is_movers Verb.Withdraw = false
+-- a call's act, from what was read
+abbrev pub line_act : CallInCode → Form → Head → Process → ℕ → Process → Act
+line_act (CallInCode.Offer p list) form h x q y = offer_act form h p x list
+line_act (CallInCode.Step p) form h x q y = step_act form h p x q y
+line_act (CallInCode.Collect p) form h x q y = collect_act form h p x
+line_act (CallInCode.Withdraw p) form h x q y = withdraw_act form h p x
 
--- a command as it counts where a table was made or not: without one, all but `n` are malformed
-abbrev pub heard : Bool → Parsed → Parsed
-heard made command = cond (made || is_new command.verb) command (plain Verb.Malformed 0)
+-- the reply to a call of one process
+abbrev pub called_by : ProcessTable → CallInCode → Reply
+called_by t (CallInCode.Offer p list) = offer_list t p list
+called_by t (CallInCode.Step p) = step t p
+called_by t (CallInCode.Collect p) = collect t p
+called_by t (CallInCode.Withdraw p) = withdraw t p
 
--- the act of a call of one process, from what was read; a command with another verb does nothing
-unfoldable pub line_act : Verb → ℕ → GuardList → Form → Head → Process → ℕ → Process → Act
-line_act Verb.Offer p list form h x q y = offer_act form h p x list
-line_act Verb.Step p list form h x q y = step_act form h p x q y
-line_act Verb.Collect p list form h x q y = collect_act form h p x
-line_act Verb.Withdraw p list form h x q y = withdraw_act form h p x
-line_act Verb.Malformed p list form h x q y = alone Answer.Unchanged h x
-line_act Verb.New p list form h x q y = alone Answer.Unchanged h x
-line_act Verb.Movers p list form h x q y = alone Answer.Unchanged h x
+-- the reply to a command of the code, its answer, and the table with which reading goes on
+abbrev pub reply_in_code : Option ProcessTable → InCode → Option Reply
+reply_in_code table (InCode.New n d) = Some (create n d)
+reply_in_code (Some t) (InCode.Do call) = Some (called_by t call)
+reply_in_code (Some t) InCode.Movers = Some (runnable t)
+reply_in_code None (InCode.Do call) = None
+reply_in_code None InCode.Movers = None
 
--- the reply to `n`, with the table that goes on
-unfoldable pub new_reply : ProcessTable → ℕ → ℕ → Reply
-new_reply t n d = let reply = create n d in record { answer = reply.answer; table = cond (is_refused reply.answer) t reply.table }
+abbrev pub answer_of : Option Reply → Option (Result Answer Refusal)
+answer_of None = None
+answer_of (Some reply) = Some reply.answer
+
+abbrev pub goes_on_with : Option ProcessTable → Option Reply → Option ProcessTable
+goes_on_with table None = table
+goes_on_with table (Some reply) = cond (is_err reply.answer) table (Some reply.table)
 
 -- a text put into an output at index `at`, and the index after it; where there is no room for a line, nothing is
 abbrev pub put_at : ℕ → List ℕ → List ℕ → List ℕ
@@ -60,12 +60,14 @@ put_at at text out = cond (leb (at + line_length) (length out)) (take at out ++ 
 abbrev pub put_end : ℕ → List ℕ → List ℕ → ℕ
 put_end at text out = cond (leb (at + line_length) (length out)) (at + length text) at
 
--- the line of a command's verb and number, and its answer
-unfoldable pub line_text : Verb → ℕ → Answer → List ℕ
-line_text Verb.Malformed n answer = ended (refusal_text 8)
-line_text Verb.New n answer = ended (answer_text (code "n" ∷ field (decimal_text n)) (said answer))
-line_text Verb.Offer n answer = ended (answer_text (code "o" ∷ field (decimal_text n)) (said answer))
-line_text Verb.Step n answer = ended (answer_text (code "s" ∷ field (decimal_text n)) (said answer))
-line_text Verb.Collect n answer = ended (answer_text (code "c" ∷ field (decimal_text n)) (said answer))
-line_text Verb.Withdraw n answer = ended (answer_text (code "w" ∷ field (decimal_text n)) (said answer))
-line_text Verb.Movers n answer = ended (answer_text (code "m" ∷ []) (said answer))
+-- the line of a call, and its answer, and that of any command
+abbrev pub call_text : CallInCode → Result Answer Refusal → List ℕ
+call_text (CallInCode.Offer p list) answer = ended (answer_text (code "o" ∷ field (decimal_text p)) (said answer))
+call_text (CallInCode.Step p) answer = ended (answer_text (code "s" ∷ field (decimal_text p)) (said answer))
+call_text (CallInCode.Collect p) answer = ended (answer_text (code "c" ∷ field (decimal_text p)) (said answer))
+call_text (CallInCode.Withdraw p) answer = ended (answer_text (code "w" ∷ field (decimal_text p)) (said answer))
+
+abbrev pub line_text : InCode → Result Answer Refusal → List ℕ
+line_text (InCode.New n d) answer = ended (answer_text (code "n" ∷ field (decimal_text n)) (said answer))
+line_text (InCode.Do call) answer = call_text call answer
+line_text InCode.Movers answer = ended (answer_text (code "m" ∷ []) (said answer))

@@ -1,31 +1,18 @@
 -- To be believed. Document 01, "The script program", and CRs 1 and 3 of document 02: what each line prints, and all that the program prints for its whole input.
-use Rattle.std.specs.Prelude.{ℕ, Bool, true, false, cond, List, [], ◌∷◌, ◌++◌}
-use Rattle.std.proofs.Math.Option.{Option, some, none}
+use Rattle.std.specs.Prelude.{ℕ, cond, List, [], ◌∷◌, ◌++◌, Option, Some, None, is_err}
 use Rattle.rendezvous.specs.Calls.{create}
 use Rattle.rendezvous.specs.Numbers.{said}
 use Rattle.rendezvous.specs.Commands.{reply_to_command}
-use Rattle.script.specs.Types.{ProcessTable, Answer, Reply, Command, New, Do, Movers}
+use Rattle.script.specs.Types.{ProcessTable, Reply, Command, New, Do, Movers}
 use Rattle.script.specs.Printing.{command_text, refusal_text, answer_text, ended}
 use Rattle.script.specs.Lines.{Line, lines_from, line_command}
 
 -- the reply to a command; "a command but `n` before an accepted `n`" has none
 unfoldable pub reply_from : Option ProcessTable → Command → Option Reply
-reply_from (some t) command = some (reply_to_command t command)
-reply_from none (New n d) = some (create n d)
-reply_from none (Do call) = none
-reply_from none Movers = none
-
--- the call was turned away
-abbrev pub is_refused : Answer → Bool
-is_refused (Answer.Refused refusal) = true
-is_refused Answer.Made = false
-is_refused (Answer.Offered t) = false
-is_refused (Answer.Moved place) = false
-is_refused Answer.Unchanged = false
-is_refused (Answer.Collected i q m) = false
-is_refused Answer.Withdrawn = false
-is_refused Answer.TooLate = false
-is_refused (Answer.Runnable set) = false
+reply_from (Some t) command = Some (reply_to_command t command)
+reply_from None (New n d) = Some (create n d)
+reply_from None (Do call) = None
+reply_from None Movers = None
 
 -- What a line prints, and the table with which reading goes on: none before an accepted `n`.
 pub record Turn : Type 0 where
@@ -40,18 +27,18 @@ malformed table = record { prints = ended (refusal_text 8); table = table }
 unfoldable pub answered : Option ProcessTable → List ℕ → Reply → Turn
 answered table command reply = record {
   prints = ended (answer_text command (said reply.answer));
-  table = cond (is_refused reply.answer) table (some reply.table);
+  table = cond (is_err reply.answer) table (Some reply.table);
 }
 
 -- one command's turn, by its reply
 abbrev pub turn_by : Option ProcessTable → Command → Option Reply → Turn
-turn_by table command none = malformed table
-turn_by table command (some reply) = answered table (command_text command) reply
+turn_by table command None = malformed table
+turn_by table command (Some reply) = answered table (command_text command) reply
 
 -- one line's turn, by its command
 unfoldable pub turn : Option ProcessTable → Option Command → Turn
-turn table none = malformed table
-turn table (some command) = turn_by table command (reply_from table command)
+turn table None = malformed table
+turn table (Some command) = turn_by table command (reply_from table command)
 
 -- all lines, each with the table that the one before it left
 unfoldable pub printed_by : Option ProcessTable → List Line → List ℕ
@@ -60,4 +47,4 @@ printed_by table (line ∷ lines) = let now = turn table (line_command line) in 
 
 -- the whole output for the whole input
 unfoldable pub output : List ℕ → List ℕ
-output input = printed_by none (lines_from [] input)
+output input = printed_by None (lines_from [] input)

@@ -1,60 +1,66 @@
-// What a line's command does to the table.
-ghost use Rattle.std.specs.Prelude.{◌≡◌};
-ghost use Rattle.script.specs.Session.{is_refused};
-ghost use Rattle.script.specs.Private.{line_act, new_reply};
+// What a line's command does to the table. The table is as long as most of a line's work, so it is changed in its place and not copied.
+ghost use Rattle.std.specs.Prelude.{◌≡◌, Some, cond, is_err};
+ghost use Rattle.rendezvous.specs.Calls.{create};
+ghost use Rattle.script.specs.Private.{answer_of, called_by, goes_on_with, line_act, process_of, reply_in_code};
 
-use command::{Parsed, Verb};
+use command::{Call, Command};
 use process::Process;
 use rendezvous::{
-    Act, Answer, Form, Head, ProcessTable, Reply, alone, collect_act, offer_act, step_act,
-    withdraw_act,
+    Act, Answer, Form, Head, ProcessTable, Refusal, collect_act, offer_act, step_act, withdraw_act,
 };
 
-// A call of one process, from what was read of the table. A command with another verb does nothing here.
-#[tactic(auto, unfolding(crate::specs::Private::line_act))]
-pub fn line_act(command: Parsed, form: Form, head: Head, x: Process, q: u8, y: Process) -> Act
-    ensures { result ≡ line_act command.verb command.number command.list form head x q y }
+// The process that a call is of.
+fn process_of(call: Call) -> u8
+    ensures { result ≡ process_of call }
 {
-    let verb = command.verb;
-    let p = command.number;
-    let list = command.list;
-    match verb {
-        Verb::Offer => offer_act(form, head, p, x, list),
-        Verb::Step => step_act(form, head, p, x, q, y),
-        Verb::Collect => collect_act(form, head, p, x),
-        Verb::Withdraw => withdraw_act(form, head, p, x),
-        Verb::Malformed => alone(Answer::Unchanged, head, x),
-        Verb::New => alone(Answer::Unchanged, head, x),
-        Verb::Movers => alone(Answer::Unchanged, head, x),
+    match call {
+        Call::Offer { p, .. } | Call::Step(p) | Call::Collect(p) | Call::Withdraw(p) => p,
     }
 }
 
-// Whether a call was turned away.
-pub fn is_refused(answer: Answer) -> bool
-    ensures { result ≡ is_refused answer }
+// A call's act, from what was read of the table.
+fn line_act(call: Call, form: Form, head: Head, x: Process, q: u8, y: Process) -> Act
+    ensures { result ≡ line_act call form head x q y }
 {
-    match answer {
-        Answer::Refused(_) => true,
-        Answer::Made => false,
-        Answer::Offered(_) => false,
-        Answer::Moved(_) => false,
-        Answer::Unchanged => false,
-        Answer::Collected(_, _, _) => false,
-        Answer::Withdrawn => false,
-        Answer::TooLate => false,
-        Answer::Runnable(_) => false,
+    match call {
+        Call::Offer { p, list } => offer_act(form, head, p, x, list),
+        Call::Step(p) => step_act(form, head, p, x, q, y),
+        Call::Collect(p) => collect_act(form, head, p, x),
+        Call::Withdraw(p) => withdraw_act(form, head, p, x),
     }
 }
 
-// The reply to `n`: a refused one keeps the old table.
-#[tactic(auto, unfolding(crate::specs::Private::new_reply))]
-pub fn created(table: ProcessTable, n: u8, nap: u8) -> Reply
-    ensures { result ≡ new_reply table n nap }
+// A call of one process.
+fn called(table: &mut ProcessTable, call: Call) -> Result<Answer, Refusal>
+    ensures { record { answer = result; table = table.new } ≡ called_by table.old call }
 {
-    let mut reply = ProcessTable::create(n, nap);
-    let answer = reply.answer;
-    if is_refused(answer) {
-        reply.table = table;
+    let p = process_of(call);
+    let x = *table.record(p);
+    let q = x.partner();
+    let act = line_act(call, table.form(), table.head, x, q, *table.record(q));
+    table.carry_out(p, q, act)
+}
+
+// `n`: a refused one keeps the old table.
+fn created(table: &mut Option<ProcessTable>, n: u8, nap: u8) -> Result<Answer, Refusal>
+    ensures answer { result ≡ (create n nap).answer }
+    ensures table { table.new ≡ cond (is_err (create n nap).answer) table.old (Some (create n nap).table) }
+{
+    let reply = ProcessTable::create(n, nap);
+    if reply.answer.is_ok() {
+        *table = Some(reply.table);
     }
-    reply
+    reply.answer
+}
+
+// The answer to a command, and the table with which reading goes on; before an accepted `n` all but `n` have none.
+pub fn answer(table: &mut Option<ProcessTable>, command: Command) -> Option<Result<Answer, Refusal>>
+    ensures answer { result ≡ answer_of (reply_in_code table.old command) }
+    ensures table { table.new ≡ goes_on_with table.old (reply_in_code table.old command) }
+{
+    match command {
+        Command::New { n, nap } => Some(created(table, n, nap)),
+        Command::Do(call) => Some(called(table.as_mut()?, call)),
+        Command::Movers => Some(table.as_ref()?.runnable().answer),
+    }
 }

@@ -15,16 +15,14 @@ mod printing;
 
 pub use feeding::{feed, finish, start};
 pub use lines::BEGUN_BYTES;
-pub use output::least;
 
-// A session between two pieces of its input. `table` counts where `made` says so. The first `length` bytes of `bytes` are the begun
-// line; one byte more than a line may have tells an overlong one.
+// A session between two pieces of its input: the begun line, which is the first `length` bytes of `bytes`, and the table, once one was
+// made. One byte more than a line may have tells an overlong one. An array and its length, since there is no heap.
 #[derive(Clone, Copy)]
 pub struct Session {
-    pub made: bool,
     pub length: usize,
     pub bytes: [u8; BEGUN_BYTES],
-    pub table: ProcessTable,
+    pub table: Option<ProcessTable>,
 }
 
 // How many bytes of a piece were taken, how many bytes of the lent output were filled, and the session after them.

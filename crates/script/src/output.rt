@@ -1,16 +1,9 @@
 // A text put into the output.
-ghost use Rattle.std.specs.Prelude.{min, ◌≡◌};
+ghost use Rattle.std.specs.Prelude.{◌≡◌};
 ghost use Rattle.text.specs.Writing.{shown};
 ghost use Rattle.script.specs.Private.{put_at, put_end};
 
 use text::{LINE_BYTES, Text};
-
-// The lesser of two numbers.
-pub fn least(a: usize, b: usize) -> usize
-    ensures { result ≡ min a b }
-{
-    if a <= b { a } else { b }
-}
 
 // Writes a text into the output at index `at`, and gives the index after it. Where there is no room for `LINE_BYTES`, the most that
 // a text has, nothing is written.
@@ -24,12 +17,8 @@ pub fn put(out: &mut [u8], at: usize, text: Text) -> usize
     if out.len() - LINE_BYTES < at {
         return at;
     }
-    let bytes = text.bytes;
-    let count = least(text.length, LINE_BYTES);
-    let mut k: usize = 0;
-    while k < count {
-        out[at + k] = bytes[k];
-        k = k + 1;
-    }
-    at + count
+    let bytes = text.as_slice();
+    let end = at + bytes.len();
+    out[at..end].copy_from_slice(bytes);
+    end
 }

@@ -4,12 +4,12 @@ ghost use Rattle.text.specs.Writing.{shown, capped, decimal_text};
 ghost use Rattle.process.specs.Process.{letter_of, index_of};
 ghost use Rattle.rendezvous.specs.Numbers.{Said, said};
 ghost use Rattle.script.specs.Printing.{message_text, field, refusal_text, answer_text, ended};
-ghost use Rattle.script.specs.Private.{line_text};
+ghost use Rattle.script.specs.Private.{call_text, line_text};
 
-use alternative::{Found, Message, bits_of};
-use command::{Parsed, Verb};
+use alternative::{Message, bits_of};
+use command::{Call, Command};
 use process::Place;
-use rendezvous::Answer;
+use rendezvous::{Answer, Refusal};
 use text::Text;
 
 // A message as a guard writes it.
@@ -30,8 +30,8 @@ fn place_text(command: Text, place: Place) -> Text
 {
     let text = command.byte(b' ').byte(place.letter());
     match place.index() {
-        Found::Missing => text,
-        Found::At(i) => text.decimal(i as u64),
+        None => text,
+        Some(i) => text.decimal(i as u64),
     }
 }
 
@@ -49,8 +49,9 @@ fn outcome_text(command: Text, index: u8, partner: u8, m: Message) -> Text
     message_text(named.byte(b' '), m)
 }
 
-fn answer_text(command: Text, answer: Answer) -> Text
-    ensures { shown result ≡ capped (answer_text (shown command) (said answer)) }
+// How the line of an accepted command goes on.
+fn accepted_text(command: Text, answer: Answer) -> Text
+    ensures { shown result ≡ capped (answer_text (shown command) (said (Ok answer))) }
 {
     match answer {
         Answer::Made => command,
@@ -66,7 +67,15 @@ fn answer_text(command: Text, answer: Answer) -> Text
             .byte(b't')
             .byte(b'e'),
         Answer::Runnable(set) => command.byte(b' ').hex(set),
-        Answer::Refused(refusal) => refusal_text(refusal.number()),
+    }
+}
+
+fn answer_text(command: Text, answer: Result<Answer, Refusal>) -> Text
+    ensures { shown result ≡ capped (answer_text (shown command) (said answer)) }
+{
+    match answer {
+        Ok(accepted) => accepted_text(command, accepted),
+        Err(refusal) => refusal_text(refusal.number()),
     }
 }
 
@@ -84,26 +93,32 @@ pub fn malformed_line() -> Text
     refusal_text(8).byte(b'\n')
 }
 
-// The line of a command and its answer.
-fn answer_line(command: Text, answer: Answer) -> Text
+// The line that begins with a command, and its answer.
+fn answer_line(command: Text, answer: Result<Answer, Refusal>) -> Text
     ensures { shown result ≡ capped (ended (answer_text (shown command) (said answer))) }
 {
     answer_text(command, answer).byte(b'\n')
 }
 
-// The line of a command with any verb. A malformed one has no answer.
-pub fn printed_line(command: Parsed, answer: Answer) -> Text
-    ensures { shown result ≡ line_text command.verb command.number answer }
+// The line of a call and its answer.
+fn call_line(call: Call, answer: Result<Answer, Refusal>) -> Text
+    ensures { shown result ≡ call_text call answer }
 {
-    let verb = command.verb;
-    let number = command.number;
-    match verb {
-        Verb::Malformed => malformed_line(),
-        Verb::New => answer_line(command_text(b'n', number), answer),
-        Verb::Offer => answer_line(command_text(b'o', number), answer),
-        Verb::Step => answer_line(command_text(b's', number), answer),
-        Verb::Collect => answer_line(command_text(b'c', number), answer),
-        Verb::Withdraw => answer_line(command_text(b'w', number), answer),
-        Verb::Movers => answer_line(Text::empty().byte(b'm'), answer),
+    match call {
+        Call::Offer { p, .. } => answer_line(command_text(b'o', p), answer),
+        Call::Step(p) => answer_line(command_text(b's', p), answer),
+        Call::Collect(p) => answer_line(command_text(b'c', p), answer),
+        Call::Withdraw(p) => answer_line(command_text(b'w', p), answer),
+    }
+}
+
+// The line of a command and its answer.
+pub fn printed_line(command: Command, answer: Result<Answer, Refusal>) -> Text
+    ensures { shown result ≡ line_text command answer }
+{
+    match command {
+        Command::New { n, .. } => answer_line(command_text(b'n', n), answer),
+        Command::Do(call) => call_line(call, answer),
+        Command::Movers => answer_line(Text::empty().byte(b'm'), answer),
     }
 }

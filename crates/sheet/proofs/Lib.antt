@@ -1,4 +1,5 @@
 pub mod ByHand
 pub mod Cuts
+pub mod Digits
 pub mod Signed
 pub mod Totals

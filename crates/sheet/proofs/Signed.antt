@@ -1,9 +1,9 @@
 -- The table with which a script ends was reached from a fresh one by calls, so that its sheet adds up.
+use Rattle.std.specs.Prelude.{Option, Some, None, Result, Ok, Err, ⊤, is_err}
 use Prim.Native.Nat.{ℕ, ◌≤◌}
 use mathlib.Core.Path.{◌≡◌, refl, sym, ap, ◌∙◌, subst⁻¹}
 use mathlib.Core.Bool.{Bool, true, false, cond, true≢false}
 use mathlib.Core.List.{List, [], ◌∷◌, ◌++◌}
-use mathlib.Core.Option.{Option, some, none}
 use lib.Dec.{leb}
 use borrow.Author.Tests.{leb-true}
 use Rattle.alternative.proofs.Tests.{and_parts}
@@ -11,7 +11,6 @@ use Rattle.rendezvous.specs.declared.ProcessTable.{ProcessTable}
 use Rattle.rendezvous.specs.declared.Answer.{Answer}
 use Rattle.rendezvous.specs.declared.Refusal.{Refusal}
 use Rattle.rendezvous.specs.declared.Reply.{Reply}
-use Rattle.rendezvous.specs.declared.Verdict.{Verdict}
 use Rattle.rendezvous.specs.Table.{most_processes, fresh_table}
 use Rattle.rendezvous.specs.WellFormed.{count_fits, nap_fits}
 use Rattle.rendezvous.specs.Refusals.{create_verdict, table_verdict}
@@ -26,7 +25,7 @@ use Rattle.history.specs.DaySheet.{SheetOf}
 use Rattle.history.proofs.DaySheet.{day-sheet}
 use Rattle.script.specs.Printing.{command_text}
 use Rattle.script.specs.Lines.{Line, lines_from, line_command}
-use Rattle.script.specs.Session.{reply_from, is_refused, answered, turn}
+use Rattle.script.specs.Session.{reply_from, answered, turn}
 use Rattle.script.specs.WithoutRanks.{IfMade}
 use Rattle.sheet.specs.Sheet.{table_after as table_at_end}
 use Rattle.sheet.specs.AddsUp.{Signed, SheetAddsUp}
@@ -41,7 +40,7 @@ record Reached (t : ProcessTable) : Type 0 where
   calls : List Call
   is : t ≡ table_after_all (fresh_table n d) calls
 
-fresh-reached : (n d : ℕ) → create_verdict n d ≡ Verdict.Accepted → Reached (fresh_table n d)
+fresh-reached : (n d : ℕ) → create_verdict n d ≡ Ok tt → Reached (fresh_table n d)
 unfolding create_verdict count_fits nap_fits after_all
 fresh-reached n d e =
     let a = passed (count_fits n) Refusal.ProcessCount _ e in
@@ -67,44 +66,44 @@ call-reached t r c = record {
 }
 
 -- an accepted `n`
-create-reached : (n d : ℕ) → is_refused (create n d).answer ≡ false → Reached (create n d).table
+create-reached : (n d : ℕ) → is_err (create n d).answer ≡ false → Reached (create n d).table
 unfolding create
 create-reached n d = go (create_verdict n d) refl
   where
-    go : (v : Verdict) → create_verdict n d ≡ v → let r = if_accepted v (fresh_table 0 0) (record { answer = Answer.Made; table = fresh_table n d }) in is_refused r.answer ≡ false → Reached r.table
-    go Verdict.Accepted e h = fresh-reached n d e
-    go (Verdict.Refused refusal) e h = absurd (true≢false h)
+    go : (v : Result ⊤ Refusal) → create_verdict n d ≡ v → let r = if_accepted v (fresh_table 0 0) (record { answer = Ok Answer.Made; table = fresh_table n d }) in is_err r.answer ≡ false → Reached r.table
+    go (Ok tt) e h = fresh-reached n d e
+    go (Err refusal) e h = absurd (true≢false h)
 
 movers-same : (t : ProcessTable) → (runnable t).table ≡ t
 unfolding runnable
 movers-same t = go (table_verdict t)
   where
-    go : (v : Verdict) → (if_accepted v t (record { answer = Answer.Runnable (runnable_set t); table = t })).table ≡ t
-    go Verdict.Accepted = refl
-    go (Verdict.Refused refusal) = refl
+    go : (v : Result ⊤ Refusal) → (if_accepted v t (record { answer = Ok (Answer.Runnable (runnable_set t)); table = t })).table ≡ t
+    go (Ok tt) = refl
+    go (Err refusal) = refl
 
-reply-reached : (t : ProcessTable) → Reached t → (c : Command) → is_refused (reply_to_command t c).answer ≡ false → Reached (reply_to_command t c).table
+reply-reached : (t : ProcessTable) → Reached t → (c : Command) → is_err (reply_to_command t c).answer ≡ false → Reached (reply_to_command t c).table
 unfolding reply_to_command
 reply-reached t r (New n d) h = create-reached n d h
 reply-reached t r (Do c) h = call-reached t r c
 reply-reached t r Movers h = subst⁻¹ Reached (movers-same t) r
 
-answered-reached : (table : Option ProcessTable) (command : List ℕ) (reply : Reply) → IfMade Reached table → (is_refused reply.answer ≡ false → Reached reply.table)
+answered-reached : (table : Option ProcessTable) (command : List ℕ) (reply : Reply) → IfMade Reached table → (is_err reply.answer ≡ false → Reached reply.table)
     → IfMade Reached (answered table command reply).table
 unfolding answered
-answered-reached table command reply r after = go (is_refused reply.answer) refl
+answered-reached table command reply r after = go (is_err reply.answer) refl
   where
-    go : (refused : Bool) → is_refused reply.answer ≡ refused → IfMade Reached (cond refused table (some reply.table))
+    go : (refused : Bool) → is_err reply.answer ≡ refused → IfMade Reached (cond refused table (Some reply.table))
     go true e = r
     go false e = after e
 
 turn-reached : (table : Option ProcessTable) (c : Option Command) → IfMade Reached table → IfMade Reached (turn table c).table
 unfolding turn reply_from
-turn-reached table none r = r
-turn-reached (some t) (some c) r = answered-reached (some t) (command_text c) (reply_to_command t c) r (reply-reached t r c)
-turn-reached none (some (New n d)) r = answered-reached none (command_text (New n d)) (create n d) r (create-reached n d)
-turn-reached none (some (Do c)) r = tt
-turn-reached none (some Movers) r = tt
+turn-reached table None r = r
+turn-reached (Some t) (Some c) r = answered-reached (Some t) (command_text c) (reply_to_command t c) r (reply-reached t r c)
+turn-reached None (Some (New n d)) r = answered-reached None (command_text (New n d)) (create n d) r (create-reached n d)
+turn-reached None (Some (Do c)) r = tt
+turn-reached None (Some Movers) r = tt
 
 lines-reached : (table : Option ProcessTable) → IfMade Reached table → (lines : List Line) → IfMade Reached (table_at_end table lines)
 unfolding table_at_end
@@ -112,8 +111,8 @@ lines-reached table r [] = r
 lines-reached table r (line ∷ lines) = lines-reached (turn table (line_command line)).table (turn-reached table (line_command line) r) lines
 
 signed : (table : Option ProcessTable) → IfMade Reached table → IfMade Signed table
-signed none r = tt
-signed (some t) r =
+signed None r = tt
+signed (Some t) r =
     let fresh = fresh_table r.n r.d in
     let run = made_by_all tables fresh r.calls in
     record {
@@ -125,4 +124,4 @@ signed (some t) r =
     }
 
 pub sheet-adds-up : SheetAddsUp
-sheet-adds-up input = signed (table_at_end none (lines_from [] input)) (lines-reached none tt (lines_from [] input))
+sheet-adds-up input = signed (table_at_end None (lines_from [] input)) (lines-reached None tt (lines_from [] input))

@@ -1,7 +1,6 @@
 -- To be believed. CR 6 of document 02: "Users check that offers = 2 × meetings + withdrawn + open". So it is on the sheet of every script, whatever its bytes are: calls have led to its table from a
 -- fresh one, and its totals are theirs.
-use Rattle.std.specs.Prelude.{ℕ, ◌≡◌, List, []}
-use Rattle.std.proofs.Math.Option.{none}
+use Rattle.std.specs.Prelude.{ℕ, ◌≡◌, List, [], None}
 use Rattle.rendezvous.specs.declared.ProcessTable.{ProcessTable}
 use Rattle.rendezvous.specs.Table.{fresh_table}
 use Rattle.rendezvous.specs.Run.{Call, table_after_all}
@@ -22,4 +21,4 @@ pub record Signed (t : ProcessTable) : Type 0 where
 
 -- of the table with which reading ends, if one was made
 abbrev pub SheetAddsUp : Type 0
-SheetAddsUp = (input : List ℕ) → IfMade Signed (table_after none (lines_from [] input))
+SheetAddsUp = (input : List ℕ) → IfMade Signed (table_after None (lines_from [] input))

@@ -1,7 +1,6 @@
 -- To be believed. CR 6 of document 02: "a second program reads a script and prints only one line, for the last desk made"; and the claim that it does so however its input is cut into pieces.
-use Rattle.std.specs.Prelude.{ℕ, ◌≡◌}
+use Rattle.std.specs.Prelude.{ℕ, ◌≡◌, Option, Some, None}
 use mathlib.Core.List.{List, [], ◌∷◌, ◌++◌, flatten}
-use Rattle.std.proofs.Math.Option.{Option, some, none}
 use Rattle.text.specs.Writing.{decimal_text}
 use Rattle.rendezvous.specs.Table.{open_offers}
 use Rattle.script.specs.Types.{ProcessTable}
@@ -21,12 +20,12 @@ totals_text offers meetings withdrawn pending = ended (decimal_text offers ++ fi
 
 -- "all 0 if no desk was made". "Offers are the accepted offers of the history": as many as tickets were given out, so the next ticket; that it is so is the claim `DaySheet` of the crate history.
 unfoldable pub sheet_text : Option ProcessTable → List ℕ
-sheet_text none = totals_text 0 0 0 0
-sheet_text (some t) = totals_text t.head.next.0 t.head.meetings t.head.withdrawn (open_offers t)
+sheet_text None = totals_text 0 0 0 0
+sheet_text (Some t) = totals_text t.head.next.0 t.head.meetings t.head.withdrawn (open_offers t)
 
 -- the whole output for the whole input
 unfoldable pub sheet : List ℕ → List ℕ
-sheet input = sheet_text (table_after none (lines_from [] input))
+sheet input = sheet_text (table_after None (lines_from [] input))
 
 -- However the input is cut into pieces, the state after them has the sheet of the whole: an unended last line, which the state still holds, changes no table.
 abbrev pub SheetOfPieces : Type 0

@@ -25,13 +25,15 @@ fn totals_text(offers: u32, meetings: u64, withdrawn: u64, pending: u8) -> Text
 pub fn sheet(session: Session) -> Text
     ensures { shown result ≡ sheet_text (state_held session).table }
 {
-    if !session.made {
-        return totals_text(0, 0, 0, 0);
+    match session.table {
+        Some(table) => totals_text(
+            table.head.next.0,
+            table.head.meetings,
+            table.head.withdrawn,
+            table.open_count(),
+        ),
+        None => totals_text(0, 0, 0, 0),
     }
-    let table = session.table;
-    let head = table.head;
-    let next = head.next;
-    totals_text(next.0, head.meetings, head.withdrawn, table.open_count())
 }
 
 // Carries the claim that the way in which the input is cut into pieces does not matter, so that the verdict has a line for it.

@@ -53,3 +53,5 @@ edge-cases-hold = record {
 
 pub read-back-holds : ReadBack
 read-back-holds = record { decimals = λ n h. decimal-back n (omega arith); byte_numbers = byte-number-back; wholes = whole_back; hex_words = hex-word-back }
+
+pub ruleset claims = (byte-values-hold, value-digits-hold, edge-cases-hold, read-back-holds)

@@ -11,8 +11,11 @@ use lib.Dec.{ltb}
 use lib.IntN.{ℤ, pos, nat_abs}
 use lib.ListN.{length, length-append}
 use lib.Signed.{lt_z}
+use mir.Facts.{to_z-of_z}
 use Rattle.text.specs.Digits.{hex_glyph}
 use Rattle.text.specs.Writing.{decimal_up_to, decimal_text, whole_text, hex_up_to, hex_text}
+use Rattle.text.proofs.Capped.{capped-then, capped-shown}
+use Rattle.text.proofs.Hexadecimals.{glyph_decimal}
 
 pub decimal-last : (k n : ℕ) → k ≡ 0 → decimal_up_to k n ≡ (code "0" + n % 10) ∷ []
 unfolding decimal_up_to
@@ -89,3 +92,9 @@ hex-length (suc k) n = omega (arith, length-append (hex_up_to k (n / 16)) (hex_g
 
 pub hex-text-length : (n : ℕ) → length (hex_text n) ≡ 8
 hex-text-length n = hex-length 8 n
+
+pub ruleset decimal_digits = (decimal-last, decimal-small, decimal-large, glyph_decimal, capped-then)
+
+pub ruleset hex_digits = (hex-none, hex-last, capped-then, capped-shown)
+
+pub ruleset signs = (whole_below, whole_above, capped-then, to_z-of_z)

@@ -1,6 +1,5 @@
 -- To be believed. Document 01, "The script program": "lower-case hexadecimal digits" and their values, with no arithmetic. The digits stand in a row.
-use Rattle.std.specs.Prelude.{ℕ, suc, cond, List, [], ◌∷◌, eqb, get_or}
-use Rattle.std.proofs.Math.Option.{Option, some, none}
+use Rattle.std.specs.Prelude.{ℕ, suc, cond, List, [], ◌∷◌, eqb, get_or, Option, Some, None}
 use Rattle.text.specs.Ascii.{bytes}
 
 -- in the order of their values, 0 to 15
@@ -9,8 +8,8 @@ hex_digits = bytes "0123456789abcdef"
 
 -- where b stands in a row whose places are counted from i
 unfoldable pub place_from : ℕ → List ℕ → ℕ → Option ℕ
-place_from i [] b = none
-place_from i (c ∷ cs) b = cond (eqb b c) (some i) (place_from (suc i) cs b)
+place_from i [] b = None
+place_from i (c ∷ cs) b = cond (eqb b c) (Some i) (place_from (suc i) cs b)
 
 -- the value of a byte: where it stands among the digits; one that does not stand there, such as an upper-case letter, is no digit
 unfoldable pub hex_digit : ℕ → Option ℕ

@@ -1,6 +1,5 @@
 -- Not to be believed: what inner contracts cite; no contract of a public function does.
-use Rattle.std.specs.Prelude.{ℕ, ◌&&◌, ltb, leb, ℤ, pos, neg_ℤ}
-use Rattle.std.proofs.Math.Option.{Option}
+use Rattle.std.specs.Prelude.{ℕ, ◌&&◌, ltb, leb, ℤ, pos, neg_ℤ, Option}
 use Rattle.text.specs.Types.{◌>>=◌}
 use Rattle.text.specs.Reading.{provided}
 

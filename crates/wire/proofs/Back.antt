@@ -1,4 +1,5 @@
 -- What a table holds is read back from its bytes, whatever follows them.
+use Rattle.std.specs.Prelude.{Option, Some, None}
 use Prim.Native.Nat.{ℕ, ◌+◌, ◌*◌, ◌/◌, ◌%◌, ◌^◌, ◌<◌}
 use mathlib.Core.Path.{◌≡◌, refl, sym, ap, subst, ◌∙◌}
 use mathlib.Core.Bool.{Bool, true, false, not}
@@ -13,7 +14,7 @@ use lib.Ieee.Bits.{of_bits-to_bits, to_bits-lt}
 use mir.Syntax.{w32}
 use mir.Val.{to_z, of_z}
 use mir.Facts.{to_z-of_z, Fits-of_z}
-use Rattle.wire.specs.Types.{Message, Action, Guard, Signal, Place, Process, Head}
+use Rattle.wire.specs.Types.{Message, Action, Guard, Place, Process, Head}
 use Rattle.wire.specs.Layout.{guard_length, signal_at, ticket_at, accepting_at, guards_at, altlist_at, record_length, next_at, meetings_at, withdrawn_at, head_length}
 use Rattle.wire.specs.Reading.{word_of, long_of, message_of, action_of, guard_of, place_of, signal_of, guards_of, process_of, head_of, table_of}
 use Rattle.wire.specs.Writing.{flag, word_bytes, long_bytes, message_bytes, action_bytes, guard_bytes, place_bytes, signal_bytes, each_bytes, guards_bytes, process_parts}
@@ -35,7 +36,7 @@ digits x y z w a b c e f g = omega arith
 top_byte : (x : ℕ) → x < 2 ^ 32 → x / 16777216 % 256 ≡ x / 16777216
 top_byte x h = omega arith
 
-word_back : (x : ℕ) → x < 2 ^ 32 → (rest : List ℕ) → word_of (word_bytes x ++ rest) ≡ x
+pub word_back : (x : ℕ) → x < 2 ^ 32 → (rest : List ℕ) → word_of (word_bytes x ++ rest) ≡ x
 unfolding word_of word_bytes
 word_back x h rest =
     rw (top_byte x h)
@@ -44,7 +45,7 @@ word_back x h rest =
     (subst (λ (z : ℕ). 256 * z + x / 256 % 256 ≡ x / 256) (div-div-eq-div-mul x 256 256) (div-add-mod (x / 256) 256))
     (subst (λ (w : ℕ). 256 * w + x / 65536 % 256 ≡ x / 65536) (div-div-eq-div-mul x 65536 256) (div-add-mod (x / 65536) 256)))
 
-long-back : (x : ℕ) → x < 2 ^ 64 → (rest : List ℕ) → long_of (long_bytes x ++ rest) ≡ x
+pub long-back : (x : ℕ) → x < 2 ^ 64 → (rest : List ℕ) → long_of (long_bytes x ++ rest) ≡ x
 unfolding long_of long_bytes word_bytes
 long-back x h rest =
     let low = x % 2 ^ 32 in
@@ -55,7 +56,7 @@ long-back x h rest =
 float_back : (x : Float) → Single x → (rest : List ℕ) → of_bits binary32 (word_of (word_bytes (to_bits binary32 x) ++ rest)) ≡ x
 float_back x h rest = ap (of_bits binary32) (word_back (to_bits binary32 x) (to_bits-lt binary32 x h) rest) ∙ of_bits-to_bits binary32 x h
 
-message-back : (m : Message) → MessageHeld m → (rest : List ℕ) → message_of (message_bytes m ++ rest) ≡ m
+pub message-back : (m : Message) → MessageHeld m → (rest : List ℕ) → message_of (message_bytes m ++ rest) ≡ m
 unfolding message_of message_bytes word_bytes
 message-back Message.Nothing h rest = refl
 message-back (Message.Whole z) h rest = ap (λ (w : ℕ). Message.Whole (to_z w32 w)) (word_back (of_z w32 z) (Fits-of_z h).fits (word_bytes 0 ++ rest)) ∙ ap Message.Whole (to_z-of_z h)
@@ -87,10 +88,10 @@ place-back (Place.Asleep steps) h rest = refl
 place-back Place.Waiting h rest = refl
 place-back (Place.Met i m) h rest = ap (Place.Met i) (message-back m h rest)
 
-signal-back : (s : Signal) → SignalHeld s → (rest : List ℕ) → signal_of (signal_bytes s ++ rest) ≡ s
+signal-back : (s : Option (ℕ × Message)) → SignalHeld s → (rest : List ℕ) → signal_of (signal_bytes s ++ rest) ≡ s
 unfolding signal_of signal_bytes
-signal-back Signal.Absent h rest = refl
-signal-back (Signal.Present i m) h rest = ap (Signal.Present i) (message-back m h rest)
+signal-back None h rest = refl
+signal-back (Some (i, m)) h rest = ap (λ m. Some (i, m)) (message-back m h rest)
 
 guards-back : (gs : List Guard) → GuardsHeld gs → (rest : List ℕ) → guards_of (guards_bytes gs ++ rest) ≡ gs
 unfolding guards_of guards_bytes

@@ -1,11 +1,12 @@
 -- How long the parts of a table are.
+use Rattle.std.specs.Prelude.{Option, Some, None}
 use Prim.Native.Nat.{ℕ}
 use mathlib.Core.Path.{◌≡◌, refl, ◌∙◌}
 use mathlib.Core.List.{List}
 use native.Mathlib.Omega.{arith}
 use lib.ListN.{length, length-append}
 use Rattle.rendezvous.specs.Table.{most_processes}
-use Rattle.wire.specs.Types.{Message, Action, Guard, Signal, Place, Process, Head, ProcessTable}
+use Rattle.wire.specs.Types.{Message, Action, Guard, Place, Process, Head, ProcessTable}
 use Rattle.wire.specs.Layout.{word_length, message_length, action_length, guard_length, guards_length, place_length, signal_length, record_length, records_length}
 use Rattle.wire.specs.Layout.{head_length, table_length}
 use Rattle.wire.specs.Writing.{word_bytes, long_bytes, message_bytes, action_bytes, guard_bytes, place_bytes, signal_bytes, each_bytes, guards_bytes, process_parts}
@@ -48,10 +49,10 @@ place-length (Place.Asleep steps) = omega (arith, message-length Message.Nothing
 place-length Place.Waiting = omega (arith, message-length Message.Nothing)
 place-length (Place.Met i m) = omega (arith, message-length m)
 
-pub signal-length : (s : Signal) → length (signal_bytes s) ≡ signal_length
+pub signal-length : (s : Option (ℕ × Message)) → length (signal_bytes s) ≡ signal_length
 unfolding signal_bytes
-signal-length Signal.Absent = omega (arith, message-length Message.Nothing)
-signal-length (Signal.Present i m) = omega (arith, message-length m)
+signal-length None = omega (arith, message-length Message.Nothing)
+signal-length (Some (i, m)) = omega (arith, message-length m)
 
 pub guards-length : (gs : List Guard) → GuardsHeld gs → length (guards_bytes gs) ≡ guards_length
 unfolding guards_bytes

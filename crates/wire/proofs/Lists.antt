@@ -1,12 +1,13 @@
 -- Bytes written one part after another, and values that stand one after another.
-use Prim.Native.Nat.{ℕ, zero, suc, ◌+◌, ◌*◌, ◌≤◌, ◌<◌}
+use Prim.Native.Nat.{ℕ, zero, suc, ◌+◌, ◌-◌, ◌*◌, ◌≤◌, ◌<◌, min}
 use mathlib.Core.Path.{◌≡◌, refl, sym, ap, ◌∙◌}
 use mathlib.Core.List.{List, [], ◌∷◌, ◌++◌, append_assoc, append-nil}
 use native.Mathlib.Nat.{le_refl, add_comm, mul-zero, mul-suc}
 use native.Mathlib.Numerals.{add-one}
 use native.Mathlib.Omega.{arith}
 use lib.ListN.{length, take, drop, get_or, set, length-append, length-set}
-use lib.Seq.{sets, sets-eq, length-sets, set_out, drop-cons, drop-drop, drop-length, drop_at, take_all, take-suc, take-suc-set}
+use lib.Seq.{sets, sets-eq, length-sets, set_out, drop-cons, drop-drop, drop-length, drop_at, length-take-le, take_all, take-suc}
+use Rattle.std.proofs.lemmas.List.{ext_get_or}
 use Rattle.wire.specs.Reading.{each_of}
 use Rattle.wire.specs.Writing.{each_bytes}
 use Rattle.wire.specs.Claims.{Each}
@@ -15,6 +16,19 @@ use Rattle.wire.specs.Claims.{Each}
 pub sets-past : (l : List ℕ) (k : ℕ) (xs : List ℕ) → length l ≤ k → sets l k xs ≡ l
 sets-past l k [] h = refl
 sets-past l k (x ∷ xs) h = rw (set_out l k x h) (sets-past l (suc k) xs (omega arith))
+
+-- .. so that much as there is room for is written
+sets_within : (l : List ℕ) (k : ℕ) (xs : List ℕ) (n : ℕ) → n ≡ min (length xs) (length l - k) → sets l k xs ≡ sets l k (take n xs)
+sets_within l k [] zero e = refl
+sets_within l k [] (suc n) e = refl
+sets_within l k (x ∷ xs) zero e = sets-past l k (x ∷ xs) (omega arith)
+sets_within l k (x ∷ xs) (suc n) e = sets_within (set l k x) (suc k) xs n (omega (arith, length-set l k x))
+
+-- the n bytes from byte k on, written at once
+pub sets-cut : (l : List ℕ) (k : ℕ) (xs ys : List ℕ) (n m : ℕ) → k < length l → n ≡ min (length xs) (length l - k) → m ≡ n → ys ≡ take n xs → take k l ++ (ys ++ drop m (drop k l)) ≡ sets l k xs
+sets-cut l k xs ys n m h e p q =
+    let long : length (take n xs) ≡ n = length-take-le n xs (omega arith) in
+    rw (sets_within l k xs n e, sets-eq (take n xs) l k (omega arith), long, q, p, drop-drop n k l, append_assoc)
 
 -- one byte of a copy
 pub sets-next : (l : List ℕ) (k : ℕ) (xs : List ℕ) (i : ℕ) → i < length xs → sets (set l k (get_or xs i 0)) (k + 1) (drop (i + 1) xs) ≡ sets l k (drop i xs)
@@ -50,22 +64,9 @@ module _ {A : Type 0} (read : List ℕ → A) (size : ℕ) where
   each_at (suc n) zero bytes d h = rw mul-zero
   each_at (suc n) (suc i) bytes d h = rw (mul-suc, add_comm (size * i) size, ← (drop-drop (size * i) size bytes)) (each_at n i (drop size bytes) d (omega arith))
 
-  -- one value more
-  each_more : (k : ℕ) (bytes : List ℕ) → each_of read size (suc k) bytes ≡ each_of read size k bytes ++ (read (drop (size * k) bytes) ∷ [])
-  unfolding each_of
-  each_more zero bytes = rw (mul-zero)
-  each_more (suc k) bytes = ap (λ (r : List A). read bytes ∷ r) (each_more k (drop size bytes) ∙ rw (drop-drop, mul-suc, add_comm (size * k) size))
-
-  -- the first k of n values of a list are read
-  abbrev pub ReadTo : ℕ → List ℕ → ℕ → List A → Type 0
-  ReadTo n bytes k l = (k ≤ n) × (length l ≡ n) × (take k l ≡ each_of read size k bytes)
-
-  pub read_more : (n : ℕ) (bytes : List ℕ) (k : ℕ) (l : List A) → k < n → ReadTo n bytes k l → ReadTo n bytes (k + 1) (set l k (read (drop (size * k) bytes)))
-  read_more n bytes k l h r =
-      (omega arith, simp length-set r.1, rw (add-one, take-suc-set l k (read (drop (size * k) bytes)) (omega arith), r.2) (sym (each_more k bytes)))
-
-  pub read-end : (n : ℕ) (bytes : List ℕ) (k : ℕ) (l : List A) → n ≤ k → ReadTo n bytes k l → l ≡ each_of read size n bytes
-  read-end n bytes k l h r = let e : k ≡ n = omega arith in sym (take_all n l (omega arith)) ∙ (rw e at r.2)
+  -- a list of n values, each of them the one that is read
+  pub each-is : (n : ℕ) (bytes : List ℕ) (l : List A) (d : A) → length l ≡ n → ((k : ℕ) → k < n → get_or l k d ≡ read (drop (size * k) bytes)) → l ≡ each_of read size n bytes
+  each-is n bytes l d e at = ext_get_or d l (each_of read size n bytes) (e ∙ sym (each-count n bytes)) (λ k h. at k (omega arith) ∙ sym (each_at n k bytes d (omega arith)))
 
 -- values that are written
 module _ {A : Type 0} (write : A → List ℕ) where

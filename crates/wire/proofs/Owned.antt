@@ -1,24 +1,26 @@
 -- What owning a table tells of its values: that the code's types can hold them.
+use Rattle.std.specs.Prelude.{ℕ, Option, Some, None}
 use mathlib.Core.Path.{subst}
 use mathlib.Core.List.{List, [], ◌∷◌}
 use borrow.Author.Rules.{rules}
 use mir.Val.{Val}
 use Rattle.alternative.specs.Guards.{most_guards}
+use Rattle.std.specs.contracts.option.Option as option
 use Rattle.alternative.specs.contracts.Message as message
 use Rattle.alternative.specs.contracts.Action as action
 use Rattle.alternative.specs.contracts.Guard as guard
-use Rattle.process.specs.contracts.Signal as signal
 use Rattle.process.specs.contracts.Place as place
 use Rattle.process.specs.contracts.Process as process
 use Rattle.process.proofs.PlaceCases.{if-met}
 use Rattle.rendezvous.specs.contracts.ProcessTable as table
-use Rattle.wire.specs.Types.{Message, Action, Guard, Signal, Place, Process, ProcessTable}
+use Rattle.wire.specs.Types.{Message, Action, Guard, Place, Process, ProcessTable}
 use Rattle.wire.specs.Claims.{MessageHeld, ActionHeld, SignalHeld, PlaceHeld, Each, GuardsHeld, ProcessHeld, Held}
 use denote.Shadow.{shadow}
 use denote.Array.{each}
 use base.Fml.{Fml}
 use denote.Struct.Field.{row_field}
-use denote.Builtin.{Array}
+use denote.Builtin.{Array, u8}
+use denote.Struct.Tuple.{Tuple}
 use denote.Struct.Declared as declared
 
 message-held : (m : Message) (vs : List Val) → shadow ((message.the_row).own_val m vs) → MessageHeld m
@@ -31,12 +33,12 @@ action-held : (a : Action) (vs : List Val) → shadow ((action.the_row).own_val 
 action-held Action.Receive vs h = tt
 action-held (Action.Send m) vs h = search message-held
 
-guard-held : (g : Guard) (vs : List Val) → shadow ((declared.row guard.the_type).own_val g vs) → ActionHeld g.action
+pub guard-held : (g : Guard) (vs : List Val) → shadow ((declared.row guard.the_type).own_val g vs) → ActionHeld g.action
 guard-held g vs h = search action-held
 
-signal-held : (s : Signal) (vs : List Val) → shadow ((signal.the_row).own_val s vs) → SignalHeld s
-signal-held Signal.Absent vs h = tt
-signal-held (Signal.Present i m) vs h = search message-held
+signal-held : (s : Option (ℕ × Message)) (vs : List Val) → shadow ((option.the_row (Tuple (u8 ∷ message.the_row ∷ []))).own_val s vs) → SignalHeld s
+signal-held None vs h = tt
+signal-held (Some (i, m)) vs h = search message-held
 
 place-held : (p : Place) (vs : List Val) → shadow ((place.the_row).own_val p vs) → PlaceHeld p
 place-held p vs h =

@@ -1,9 +1,9 @@
 -- To be believed. That a table is read back from its bytes: `reads_back` carries it of any table that is held, and `encode` of every table of the code. `guard_as_bytes`, `head_as_bytes` and `nap_as_bytes` carry the bytes of a guard, of a head and of a sleeper.
-use Rattle.std.specs.Prelude.{◌^◌, ◌<◌, ◌≡◌, ◌∷◌, ◌++◌}
+use Rattle.std.specs.Prelude.{◌^◌, ◌<◌, ◌≡◌, ◌∷◌, ◌++◌, Option, Some, None}
 use Rattle.alternative.specs.Guards.{most_guards}
 use Rattle.process.specs.Process.{if_met}
 use Rattle.rendezvous.specs.Table.{most_processes}
-use Rattle.wire.specs.Types.{ℕ, true, List, [], length, T, Float, binary32, w32, SFits, Message, Action, Guard, Signal}
+use Rattle.wire.specs.Types.{ℕ, true, List, [], length, T, Float, binary32, w32, SFits, Message, Action, Guard}
 use Rattle.wire.specs.Types.{Place, Process, Head, ProcessTable}
 use Rattle.wire.specs.Layout.{table_length}
 use Rattle.wire.specs.Reading.{guard_of, place_of, head_of, table_of}
@@ -30,9 +30,9 @@ abbrev pub ActionHeld : Action → Type 0
 ActionHeld Action.Receive = Unit {0}
 ActionHeld (Action.Send m) = MessageHeld m
 
-abbrev pub SignalHeld : Signal → Type 0
-SignalHeld Signal.Absent = Unit {0}
-SignalHeld (Signal.Present i m) = MessageHeld m
+abbrev pub SignalHeld : Option (ℕ × Message) → Type 0
+SignalHeld None = Unit {0}
+SignalHeld (Some (i, m)) = MessageHeld m
 
 abbrev pub PlaceHeld : Place → Type 0
 PlaceHeld place = MessageHeld (if_met Message.Nothing (λ i m. m) place)

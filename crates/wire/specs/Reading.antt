@@ -1,12 +1,12 @@
 -- To be believed. The bytes of a table, read: any bytes are a table. Too few are read as if zeros followed, and what follows a whole table is passed over. A tag past the
 -- last variant's is read as the last variant, and any byte but 0 as true.
-use Rattle.std.specs.Prelude.{◌+◌, ◌*◌, ◌/◌, ◌^◌, ◌∷◌}
+use Rattle.std.specs.Prelude.{◌+◌, ◌*◌, ◌/◌, ◌^◌, ◌∷◌, Option, Some, None}
 use Rattle.alternative.specs.Guards.{most_guards}
 use Rattle.rendezvous.specs.Table.{most_processes}
 use Rattle.wire.specs.Layout.{first_at, second_at, sent_at, action_at, outcome_at, signalled_at, guard_length, word_length, next_at, meetings_at, withdrawn_at, head_length, record_length}
 use Rattle.wire.specs.Layout.{signal_at, ticket_at, accepting_at, count_at, altcount_at, guards_at, altlist_at}
 use Rattle.wire.specs.Types.{ℕ, zero, suc, not, List, [], length, get_or, drop, eqb, binary32, of_bits, w32, to_z, Message, Action}
-use Rattle.wire.specs.Types.{Guard, Signal, Place, Process, Head, ProcessTable}
+use Rattle.wire.specs.Types.{Guard, Place, Process, Head, ProcessTable}
 
 abbrev pub byte : List ℕ → ℕ → ℕ
 byte bytes k = get_or bytes k 0
@@ -37,8 +37,8 @@ place_of bytes =
     let i = byte bytes 1 in
     get_or (Place.Idle ∷ Place.Entering ∷ Place.Scanning i ∷ Place.Trying i ∷ Place.Committed i (byte bytes 2) ∷ Place.Posting ∷ Place.Opening ∷ Place.Showing ∷ Place.Asleep i ∷ Place.Waiting ∷ []) (byte bytes 0) (Place.Met i (message_of (drop outcome_at bytes)))
 
-unfoldable pub signal_of : List ℕ → Signal
-signal_of bytes = get_or (Signal.Absent ∷ []) (byte bytes 0) (Signal.Present (byte bytes 1) (message_of (drop signalled_at bytes)))
+unfoldable pub signal_of : List ℕ → Option (ℕ × Message)
+signal_of bytes = get_or (None ∷ []) (byte bytes 0) (Some ((byte bytes 1), (message_of (drop signalled_at bytes))))
 
 -- values that stand one after another, each `size` bytes long
 unfoldable pub each_of : {A : Type 0} → (List ℕ → A) → ℕ → ℕ → List ℕ → List A

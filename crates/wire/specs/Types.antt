@@ -6,5 +6,5 @@ pub use Rattle.std.specs.Float.Ieee.{of_bits, to_bits}
 pub use Rattle.std.specs.Int.{w32}
 pub use Rattle.std.proofs.Common.{to_z, of_z, SFits}
 pub use Rattle.alternative.specs.declared.{Message.Message, Action.Action, Guard.Guard}
-pub use Rattle.process.specs.declared.{Signal.Signal, Place.Place, Process.Process}
+pub use Rattle.process.specs.declared.{Place.Place, Process.Process}
 pub use Rattle.rendezvous.specs.declared.{Head.Head, ProcessTable.ProcessTable}

@@ -1,7 +1,7 @@
 -- To be believed. The bytes of a table, written, in the order in which Reading reads them.
-use Rattle.std.specs.Prelude.{◌/◌, ◌%◌, ◌^◌, ◌∷◌, ◌++◌}
+use Rattle.std.specs.Prelude.{◌/◌, ◌%◌, ◌^◌, ◌∷◌, ◌++◌, Option, Some, None}
 use Rattle.wire.specs.Types.{ℕ, Bool, cond, List, [], flatten, length, drop, leb, binary32, to_bits, w32, of_z, Message, Action}
-use Rattle.wire.specs.Types.{Guard, Signal, Place, Process, Head, ProcessTable}
+use Rattle.wire.specs.Types.{Guard, Place, Process, Head, ProcessTable}
 
 abbrev pub flag : Bool → ℕ
 flag b = cond b 1 0
@@ -42,9 +42,9 @@ place_bytes (Place.Asleep steps) = 8 ∷ steps ∷ 0 ∷ message_bytes Message.N
 place_bytes Place.Waiting = 9 ∷ 0 ∷ 0 ∷ message_bytes Message.Nothing
 place_bytes (Place.Met i m) = 10 ∷ i ∷ 0 ∷ message_bytes m
 
-unfoldable pub signal_bytes : Signal → List ℕ
-signal_bytes Signal.Absent = 0 ∷ 0 ∷ message_bytes Message.Nothing
-signal_bytes (Signal.Present i m) = 1 ∷ i ∷ message_bytes m
+unfoldable pub signal_bytes : Option (ℕ × Message) → List ℕ
+signal_bytes None = 0 ∷ 0 ∷ message_bytes Message.Nothing
+signal_bytes (Some (i, m)) = 1 ∷ i ∷ message_bytes m
 
 -- values one after another
 unfoldable pub each_bytes : {A : Type 0} → (A → List ℕ) → List A → List ℕ

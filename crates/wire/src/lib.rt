@@ -7,13 +7,12 @@ ghost use Rattle.wire.specs.Layout.{Lengths, table_length};
 ghost use Rattle.wire.specs.Writing.{bytes_of, onto};
 ghost use Rattle.wire.specs.Claims.{Faithful, ReadsBack, GuardAsBytes, HeadAsBytes, NapAsBytes};
 
-use process::fresh_process;
 use rendezvous::ProcessTable;
+use std::array;
 
 mod bytes;
 mod layout;
 mod reading;
-mod wholes;
 mod writing;
 
 pub use bytes::{byte_at, from, long_bytes, put_bytes, word_bytes};
@@ -27,36 +26,29 @@ use writing::{head_bytes, process_bytes};
 pub fn decode(bytes: &[u8]) -> ProcessTable
     ensures { result ≡ table_of bytes.now }
 {
-    let fresh = fresh_process();
-    let mut processes = [fresh; layout::RECORDS];
-    let mut p: usize = 0;
-    while p < layout::RECORDS {
-        processes[p] = process_of(from(bytes, layout::HEAD_BYTES + layout::RECORD_BYTES * p));
-        p = p + 1;
-    }
     ProcessTable {
         head: head_of(bytes),
-        processes: processes,
+        processes: array::from_fn(|p| {
+            process_of(from(bytes, layout::HEAD_BYTES + layout::RECORD_BYTES * p))
+        }),
     }
 }
 
 // Writes the bytes of a table to the front of `out`, or nothing if `out` is too short, and says whether it wrote. Whatever the table,
-// its bytes are read as that table.
+// its bytes are read as that table. It comes by value: `Faithful` needs that its numbers fit, which a proof doesn't know behind a reference.
 pub fn encode(table: ProcessTable, out: &mut [u8]) -> bool
     ensures { (result ≡ leb table_length (length out.old)) × (out.new ≡ onto table_length (bytes_of table) out.old) × Faithful table }
 {
     if out.len() < TABLE_BYTES {
         return false;
     }
-    let h = table.head;
-    let head = head_bytes(h);
-    put_bytes(out, 0, &head);
-    let mut p: usize = 0;
-    while p < layout::RECORDS {
-        let x = table.processes[p];
-        let record = process_bytes(x);
-        put_bytes(out, layout::HEAD_BYTES + layout::RECORD_BYTES * p, &record);
-        p = p + 1;
+    put_bytes(out, 0, &head_bytes(&table.head));
+    for (p, x) in table.processes.iter().enumerate() {
+        put_bytes(
+            out,
+            layout::HEAD_BYTES + layout::RECORD_BYTES * p,
+            &process_bytes(x),
+        );
     }
     true
 }

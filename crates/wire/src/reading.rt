@@ -1,14 +1,14 @@
-// What the bytes at the front of a slice are read as.
+// What the bytes at the front of a slice are read as. A variant's number is the one that C reads and writes (docs/BYTES.md).
 ghost use Rattle.std.specs.Prelude.{◌≡◌};
 ghost use Rattle.alternative.specs.Guards.{lent};
 ghost use Rattle.wire.specs.Reading.{message_of, action_of, guard_of, place_of, signal_of, guards_of, offer_of, process_of, head_of};
 
 use crate::bytes::{byte_at, from, long_of, word_of};
 use crate::layout;
-use crate::wholes::whole_of;
-use alternative::{Action, Guard, GuardList, Message, blank_guard, blanked, float_of};
+use alternative::{Action, Guard, GuardList, Message, blanked, float_of};
 use process::{Place, Process, Signal, TransactionId};
 use rendezvous::Head;
+use std::array;
 
 #[tactic(auto, unfolding(crate::specs::Reading::message_of))]
 pub fn message_of(bytes: &[u8]) -> Message
@@ -17,7 +17,7 @@ pub fn message_of(bytes: &[u8]) -> Message
     let first = word_of(from(bytes, layout::FIRST_AT));
     match byte_at(bytes, 0) {
         0 => Message::Nothing,
-        1 => Message::Whole(whole_of(first)),
+        1 => Message::Whole(first.cast_signed()),
         2 => Message::Reading(float_of(first)),
         _ => Message::Limit(
             float_of(first),
@@ -40,13 +40,12 @@ fn action_of(bytes: &[u8]) -> Action
 fn guard_of(bytes: &[u8]) -> Guard
     ensures { result ≡ guard_of bytes.now }
 {
-    let action = action_of(from(bytes, layout::ACTION_AT));
     Guard {
         enabled: byte_at(bytes, 0) != 0,
         partner: byte_at(bytes, 1),
         kind: byte_at(bytes, 2),
         rank: byte_at(bytes, 3),
-        action: action,
+        action: action_of(from(bytes, layout::ACTION_AT)),
     }
 }
 
@@ -75,25 +74,18 @@ fn signal_of(bytes: &[u8]) -> Signal
     ensures { result ≡ signal_of bytes.now }
 {
     match byte_at(bytes, 0) {
-        0 => Signal::Absent,
-        _ => Signal::Present(
+        0 => None,
+        _ => Some((
             byte_at(bytes, 1),
             message_of(from(bytes, layout::SIGNALLED_AT)),
-        ),
+        )),
     }
 }
 
 fn guards_of(bytes: &[u8]) -> [Guard; layout::SLOTS]
     ensures { result ≡ guards_of bytes.now }
 {
-    let blank = blank_guard();
-    let mut guards = [blank; layout::SLOTS];
-    let mut k: usize = 0;
-    while k < layout::SLOTS {
-        guards[k] = guard_of(from(bytes, layout::GUARD_BYTES * k));
-        k = k + 1;
-    }
-    guards
+    array::from_fn(|k| guard_of(from(bytes, layout::GUARD_BYTES * k)))
 }
 
 // The guards of an offer as a list by value: how many there are bytes for, and the first eight.
@@ -101,11 +93,9 @@ pub fn offer_of(bytes: &[u8]) -> GuardList
     ensures { result ≡ lent (offer_of bytes.now) }
 {
     let count = bytes.len() / layout::GUARD_BYTES;
-    let eight = guards_of(bytes);
-    let guards = blanked(eight, count);
     GuardList {
-        count: count,
-        guards: guards,
+        count,
+        guards: blanked(guards_of(bytes), count),
     }
 }
 
@@ -113,20 +103,15 @@ pub fn offer_of(bytes: &[u8]) -> GuardList
 pub fn process_of(bytes: &[u8]) -> Process
     ensures { result ≡ process_of bytes.now }
 {
-    let place = place_of(bytes);
-    let signal = signal_of(from(bytes, layout::SIGNAL_AT));
-    let ticket = TransactionId(word_of(from(bytes, layout::TICKET_AT)));
-    let guards = guards_of(from(bytes, layout::GUARDS_AT));
-    let altlist = guards_of(from(bytes, layout::ALTLIST_AT));
     Process {
-        place: place,
-        signal: signal,
-        transaction: ticket,
+        place: place_of(bytes),
+        signal: signal_of(from(bytes, layout::SIGNAL_AT)),
+        transaction: TransactionId(word_of(from(bytes, layout::TICKET_AT))),
         accepting: byte_at(bytes, layout::ACCEPTING_AT) != 0,
         count: byte_at(bytes, layout::COUNT_AT),
         altcount: byte_at(bytes, layout::ALTCOUNT_AT),
-        guards: guards,
-        altlist: altlist,
+        guards: guards_of(from(bytes, layout::GUARDS_AT)),
+        altlist: guards_of(from(bytes, layout::ALTLIST_AT)),
     }
 }
 
@@ -134,11 +119,10 @@ pub fn process_of(bytes: &[u8]) -> Process
 pub fn head_of(bytes: &[u8]) -> Head
     ensures { result ≡ head_of bytes.now }
 {
-    let next = TransactionId(word_of(from(bytes, layout::NEXT_AT)));
     Head {
         n: byte_at(bytes, 0),
         nap: byte_at(bytes, 1),
-        next: next,
+        next: TransactionId(word_of(from(bytes, layout::NEXT_AT))),
         meetings: long_of(from(bytes, layout::MEETINGS_AT)),
         withdrawn: long_of(from(bytes, layout::WITHDRAWN_AT)),
     }

@@ -1,24 +1,17 @@
-use Rattle.std.proofs.Common.{ℕ, zero, suc, ◌≡◌, ◌<◌, List, [], ◌∷◌, refl, ap, length, get_or, arith}
+use Rattle.std.proofs.Common.{ℕ, ◌-◌, ◌≡◌, min, List, ◌++◌, length, get_or, take, drop, replicate, ap, ◌∙◌, arith, get_or-take, length-take}
+use lib.ListN.{length-append, length-replicate}
+use Rattle.std.proofs.lemmas.List.{drop-replicate, take_min}
 use Rattle.alternative.specs.declared.Guard.{Guard}
-use Rattle.alternative.specs.Guards.{blank, lent}
-use Rattle.alternative.proofs.Slots.{slots-are}
+use Rattle.alternative.specs.Guards.{blank, lent, slots}
+use Rattle.alternative.proofs.Slots.{slots-are, blank-past}
 use Rattle.lent.proofs.copied.Goals as goal
 
--- the list that is made: the guards at 0 to 7 are the slots
-abbrev upto : ℕ → (ℕ → Guard) → List Guard
-upto zero f = []
-upto (suc n) f = f 0 ∷ upto n (λ i. f (suc i))
-
-upto-at : (n : ℕ) (f : ℕ → Guard) (i : ℕ) → i < n → get_or (upto n f) i blank ≡ f i
-upto-at zero f i h = absurd (omega arith)
-upto-at (suc n) f zero h = refl
-upto-at (suc n) f (suc i) h = upto-at n (λ j. f (suc j)) i (omega arith)
-
-made : (gs : List Guard) → record { count = length gs; guards = upto 8 (λ i. get_or gs i blank) } ≡ lent gs
-unfolding lent
-made gs = ap (λ (l : List Guard). record { count = length gs; guards = l }) (slots-are gs (upto 8 (λ i. get_or gs i blank)) refl (upto-at 8 (λ i. get_or gs i blank)))
+-- the first eight guards, or all where they are fewer, and blanks in the rest of the eight slots
+held : (gs : List Guard) (n : ℕ) → n ≡ min 8 (length gs) → take n gs ++ drop n (replicate 8 blank) ≡ slots gs
+held gs n e = rw (drop-replicate n 8 blank) (slots-are gs (take n gs ++ replicate (8 - n) blank)
+    (omega (arith, length-append (take n gs) (replicate (8 - n) blank), length-take n gs, length-replicate (8 - n) blank))
+    (λ i h. blank-past (take n gs) (8 - n) i ∙ ap (λ (l : List Guard). get_or l i blank) (ap (λ (m : ℕ). take m gs) e ∙ take_min 8 gs) ∙ get_or-take 8 gs i blank h))
 
 pub returns : goal.returns
-returns c =
-    rw (c.packed.ensures, c.get_or.ensures, c.get_or-2.ensures, c.get_or-3.ensures, c.get_or-4.ensures, c.get_or-5.ensures, c.get_or-6.ensures, c.get_or-7.ensures, c.get_or-8.ensures, c.blank_guard-past.ensures)
-    (made c.args.guards.now)
+unfolding lent
+returns c = rw (c.copy_from_slice.ensures.after, c.blank_guard-slots.ensures, held c.args.guards.now c.min-read.result (omega (arith, c.min-read.ensures)))

@@ -1,15 +1,10 @@
-use Rattle.std.proofs.lemmas.Bool.{not-true, not-false}
 use Rattle.sheet.specs.Sheet.{sheet_text}
 use Rattle.sheet.proofs.sheet.Goals as goal
 
-pub returns-then-not-session : goal.returns-then-not-session
+pub returns-in-Some : goal.returns-in-Some
 unfolding sheet_text
-returns-then-not-session c =
-    let made = not-true c.args.session.made c.if-not-session.true in
-    rw made c.totals_text.ensures
+returns-in-Some c = rw (c.in-Some.is, ← c.open_count.ensures) c.totals_text.ensures
 
-pub returns : goal.returns
+pub returns-in-None : goal.returns-in-None
 unfolding sheet_text
-returns c =
-    let made = not-false c.args.session.made c.if-not-session.false in
-    rw (made, ← c.open_count.ensures) c.totals_text-2.ensures
+returns-in-None c = rw c.in-None.is c.totals_text-in-None.ensures

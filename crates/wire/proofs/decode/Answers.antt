@@ -1,24 +1,20 @@
-use Rattle.std.proofs.Common.{◌*◌, refl, arith, drop, drop-drop}
-use Rattle.rendezvous.specs.Table.{most_processes}
+use Rattle.std.proofs.Common.{rules, ◌≡◌, ◌+◌, ◌*◌, refl, drop}
+use Rattle.std.proofs.Math.Seq.{drop-drop}
+use Rattle.process.specs.Process.{nobody}
 use Rattle.wire.specs.Layout.{head_length, record_length}
-use Rattle.wire.specs.Reading.{each_of, process_of, table_of}
-use Rattle.wire.proofs.Lists.{read_more, read-end}
+use Rattle.wire.specs.Reading.{process_of, table_of}
+use Rattle.wire.proofs.Made.{made-each}
 use Rattle.wire.proofs.decode.Goals as goal
-
-pub loop-p-init : goal.loop-p-init
-unfolding each_of
-loop-p-init c = (omega arith, refl, refl)
-
-pub loop-p-preserved : goal.loop-p-preserved
-loop-p-preserved c =
-    let s = c.args.bytes.now in
-    rw (c.process_of.ensures, c.from.ensures, ← (drop-drop (record_length * c.loop-p.p) head_length s))
-    (read_more process_of record_length most_processes (drop head_length s) c.loop-p.p c.loop-p.processes (omega arith) c.loop-p.invariant)
 
 pub returns : goal.returns
 unfolding table_of
 returns c =
+    let s = c.args.bytes.now in
     rw (
       c.head_of.ensures,
-      read-end process_of record_length most_processes (drop head_length c.args.bytes.now) c.loop-p.p c.loop-p.processes (omega arith) c.loop-p.invariant,
+      made-each c.from_fn.ensures.items (λ f. f.0.now ≡ s) process_of record_length (drop head_length s) refl (λ f k y q e r.
+          let was = r.met in
+          let read : y ≡ process_of (drop (head_length + record_length * k) f.0.now) = search rules in
+          (rw (drop-drop (record_length * k) head_length s, ← e) read, rw (← e) (search rules)))
+          nobody,
     )

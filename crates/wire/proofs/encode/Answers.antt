@@ -27,7 +27,7 @@ loop-p-preserved c =
     let p = c.loop-p.p in
     let ps = c.args.table.processes in
     let n : length ps ≡ most_processes = search (length-mapped, c.well_formed) in
-    let r = c.process_bytes-record in
+    let r = c.process_bytes in
     let m : length (process_bytes (get_or ps p nobody)) ≡ record_length = ap length (sym r.ensures) ∙ search (length_unmapped, r.type_inv) in
     rw (c.put_bytes-in-loop-p.ensures, r.ensures)
     (written-more process_bytes record_length most_processes ps nobody head_length _ p c.loop-p.out (head_length + record_length * p) n (omega arith) m refl c.loop-p.invariant)
@@ -44,6 +44,6 @@ returns c =
     let end = written-end process_bytes record_length most_processes t.processes head_length _ c.loop-p.p c.loop-p.out n (omega arith) c.loop-p.invariant in
     rw (le-leb table_length (length s) fits) (
       refl,
-      end.1 ∙ rw (c.put_bytes.ensures, c.head_bytes-head.ensures, sets-join s 0 head records head_length (omega (arith, head-length t.head))) (sets-front s (bytes_of t) table_length (table-length t end.0) fits),
+      end.1 ∙ rw (c.put_bytes.ensures, c.head_bytes.ensures, sets-join s 0 head records head_length (omega (arith, head-length t.head))) (sets-front s (bytes_of t) table_length (table-length t end.0) fits),
       table-back t (table-held t _ c.well_formed.0),
     )

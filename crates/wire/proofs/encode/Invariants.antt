@@ -1,4 +1,3 @@
-use Rattle.std.proofs.Common.{◌-◌}
 use Rattle.rendezvous.specs.Table.{most_processes}
 use Rattle.wire.specs.Layout.{head_length, record_length}
 use Rattle.wire.specs.Writing.{process_bytes}
@@ -6,7 +5,4 @@ use Rattle.wire.proofs.Lists.{WrittenTo}
 use Rattle.wire.proofs.encode.Given as goal
 
 abbrev pub invariant-loop-p : goal.invariant-loop-p
-invariant-loop-p l = WrittenTo process_bytes record_length most_processes l.table.processes head_length l.initial.out l.p l.out
-
-abbrev pub decreases-loop-p : goal.decreases-loop-p
-decreases-loop-p l = 32 - l.p
+invariant-loop-p l = WrittenTo process_bytes record_length most_processes l.x-items head_length l.initial.out l.p l.out

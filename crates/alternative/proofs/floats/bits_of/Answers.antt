@@ -6,4 +6,4 @@ use Rattle.alternative.proofs.floats.bits_of.Goals as goal
 
 pub returns-then-is_nan : goal.returns-then-is_nan
 unfolding to_bits
-returns-then-is_nan c = sym (ap (to_bits binary32) (is-nan _ (sym c.is_nan.ensures ∙ c.if-is_nan.true)))
+returns-then-is_nan c = sym (ap (to_bits binary32) (is-nan _ (sym c.is_nan.ensures.value ∙ c.if-is_nan.true)))

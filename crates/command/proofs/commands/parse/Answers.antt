@@ -1,17 +1,18 @@
-use Rattle.command.proofs.Leading.{part-rest}
-use Rattle.command.proofs.Letters.{line-empty, line-alone, line-with, line-glued}
+use Rattle.std.proofs.Common.{◌≡◌, get_or, arith}
+use Rattle.command.proofs.Letters.{alone-parsed, line-empty, line-alone, line-with, line-glued}
 use Rattle.command.proofs.commands.parse.Goals as goal
 
-pub returns-then-n-eq0 : goal.returns-then-n-eq0
-returns-then-n-eq0 c = rw (line-empty _ c.if-n-eq0.true) c.plain_command.ensures
+pub returns-in-len1 : goal.returns-in-len1
+returns-in-len1 c = rw (line-alone c.args.line.now (omega (arith, c.in-len1))) (alone-parsed _ _ c.then_some.ensures)
 
-pub returns-then-n-eq1 : goal.returns-then-n-eq1
-returns-then-n-eq1 c = rw (line-alone c.args.line.now c.if-n-eq1.true) c.parse_alone.ensures
-
-pub returns-then-line-eq32 : goal.returns-then-line-eq32
-returns-then-line-eq32 c =
+pub returns-in-32 : goal.returns-in-32
+returns-in-32 c =
     let s = c.args.line.now in
-    rw (line-with s c.if-n-eq0.false c.if-n-eq1.false c.if-line-eq32.true, ← part-rest 2 s) c.parse_with.ensures
+    let space : get_or s 1 0 ≡ 32 = omega arith in
+    rw (line-with s c.in-32.len_at_least space) c.parse_with.ensures
 
-pub returns : goal.returns
-returns c = rw (line-glued c.args.line.now c.if-n-eq0.false c.if-n-eq1.false c.if-line-eq32.false) c.plain_command-2.ensures
+pub returns-in_default : goal.returns-in_default
+returns-in_default c = rw (line-empty c.args.line.now (omega arith))
+
+pub returns-in_default-2 : goal.returns-in_default-2
+returns-in_default-2 c = rw (line-glued c.args.line.now c.in_default.len_at_least (λ e. omega (arith, e)))

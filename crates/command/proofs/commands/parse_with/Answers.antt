@@ -1,32 +1,31 @@
-use Rattle.std.proofs.Common.{refl, ◌∙◌}
-use Rattle.rendezvous.specs.Run.{Step, Collect, Withdraw}
-use Rattle.rendezvous.specs.Commands.{Do}
-use Rattle.command.specs.declared.Verb.{Verb}
-use Rattle.command.specs.Commands.{by_letter}
-use Rattle.command.proofs.Letters.{numbered-as, with_none}
+use Rattle.std.proofs.Common.{rules, arith}
+use Rattle.std.proofs.lemmas.Bool.Decides.{nat_tests}
+use borrow.Author.Tests.{ne_eqb}
+use Rattle.command.specs.Commands.{numbered, by_letter}
+use Rattle.command.proofs.Letters.{with_none}
 use Rattle.command.proofs.commands.parse_with.Goals as goal
 
-pub returns-then-letter-eq110 : goal.returns-then-letter-eq110
+pub returns-in-110 : goal.returns-in-110
 unfolding by_letter
-returns-then-letter-eq110 c = rw c.if-letter-eq110.true c.parse_new.ensures
+returns-in-110 c = rw c.in-110.is c.parse_new.ensures
 
-pub returns-then-letter-eq111 : goal.returns-then-letter-eq111
+pub returns-in-111 : goal.returns-in-111
 unfolding by_letter
-returns-then-letter-eq111 c = rw c.if-letter-eq111.true c.parse_offer.ensures
+returns-in-111 c = rw c.in-111.is c.parse_offer.ensures
 
-pub returns-then-letter-eq115 : goal.returns-then-letter-eq115
-unfolding by_letter
-returns-then-letter-eq115 c = rw c.if-letter-eq115.true (c.parse_numbered.ensures ∙ numbered-as Verb.Step (λ p. Do (Step p)) (λ n. refl) _)
+pub returns-in-115 : goal.returns-in-115
+unfolding by_letter numbered
+returns-in-115 c = rw (c.in-115.is, ← c.read_only_number.ensures) (search rules)
 
-pub returns-then-letter-eq99 : goal.returns-then-letter-eq99
-unfolding by_letter
-returns-then-letter-eq99 c = rw c.if-letter-eq99.true (c.parse_numbered-then-letter-eq99.ensures ∙ numbered-as Verb.Collect (λ p. Do (Collect p)) (λ n. refl) _)
+pub returns-in-99 : goal.returns-in-99
+unfolding by_letter numbered
+returns-in-99 c = rw (c.in-99.is, ← c.read_only_number-in-99.ensures) (search rules)
 
-pub returns-then-letter-eq119 : goal.returns-then-letter-eq119
-unfolding by_letter
-returns-then-letter-eq119 c = rw c.if-letter-eq119.true (c.parse_numbered-then-letter-eq119.ensures ∙ numbered-as Verb.Withdraw (λ p. Do (Withdraw p)) (λ n. refl) _)
+pub returns-in-119 : goal.returns-in-119
+unfolding by_letter numbered
+returns-in-119 c = rw (c.in-119.is, ← c.read_only_number-in-119.ensures) (search rules)
 
-pub returns : goal.returns
-returns c =
+pub returns-in_default : goal.returns-in_default
+returns-in_default c =
     let a = c.args in
-    rw (with_none a.letter a.s.now c.if-letter-eq110.false c.if-letter-eq111.false c.if-letter-eq115.false c.if-letter-eq99.false c.if-letter-eq119.false) c.plain_command.ensures
+    rw (with_none a.letter a.s.now (λ e. omega (arith, e)) (λ e. omega (arith, e)) (λ e. omega (arith, e)) (λ e. omega (arith, e)) (λ e. omega (arith, e)))

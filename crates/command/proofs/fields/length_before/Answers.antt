@@ -1,20 +1,11 @@
-use Rattle.std.proofs.Common.{arith}
-use borrow.Author.Tests.{eq-eqb, ne_eqb}
-use Rattle.command.specs.Commands.{is_not}
-use Rattle.command.proofs.Leading.{leading-on, leading-stop, leading_end}
+use Rattle.std.proofs.Common.{eqb, rules, tests}
+use Rattle.std.proofs.lemmas.List.Sums.{prefix_len-le-length}
+use Rattle.std.proofs.lemmas.Iterator.{YieldsList-from_slice}
+use Rattle.std.proofs.lemmas.Iterator.Search.{position_from_yields_List}
+use Rattle.command.proofs.Heads.{place-found}
 use Rattle.command.proofs.fields.length_before.Goals as goal
 
-pub returns-then-s-i : goal.returns-then-s-i
-returns-then-s-i c =
-    let l = c.loop-i in
-    omega (arith, l.invariant.1, leading-stop (is_not c.args.mark) c.args.s.now l.i (omega arith) (rw (eq-eqb _ _ c.if-s-i.true)))
-
-pub loop-i-preserved : goal.loop-i-preserved
-loop-i-preserved c =
-    let l = c.loop-i in
-    (omega arith, omega (arith, l.invariant.1, leading-on (is_not c.args.mark) c.args.s.now l.i (omega arith) (rw (ne_eqb _ _ c.if-s-i.false))))
-
-pub returns : goal.returns
-returns c =
-    let l = c.loop-i in
-    omega (arith, l.invariant.1, leading_end (is_not c.args.mark) c.args.s.now l.i c.loop-i-test.false)
+pub returns-clause-value : goal.returns-clause-value
+returns-clause-value c =
+    let found = position_from_yields_List (λ b. eqb b c.args.mark) _ _ c.position.result c.position.ensures.ran (YieldsList-from_slice c.args.s.now cc) (λ x b q k. search (rules, tests)) in
+    place-found _ _ _ _ (prefix_len-le-length _ _) found c.unwrap_or.ensures

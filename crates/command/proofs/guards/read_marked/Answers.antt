@@ -1,13 +1,11 @@
-use Rattle.std.proofs.Common.{sym, ap, ◌∙◌}
-use Rattle.text.specs.Reading.{byte_number}
-use Rattle.command.proofs.Leading.{part-rest}
-use Rattle.command.proofs.Heads.{marked-nothing, marked-after}
+use Rattle.command.specs.Commands.{marked_in}
+use Rattle.command.proofs.Heads.{empty_of, headed}
 use Rattle.command.proofs.guards.read_marked.Goals as goal
 
-pub returns-then-s-eq0 : goal.returns-then-s-eq0
-returns-then-s-eq0 c = sym (marked-nothing _ c.if-s-eq0.true)
+pub returns-in-empty : goal.returns-in-empty
+unfolding marked_in
+returns-in-empty c = rw (empty_of c.args.s.now c.in-empty.len_below)
 
-pub returns : goal.returns
-returns c =
-    let s = c.args.s.now in
-    c.read_byte_number.ensures ∙ ap byte_number (part-rest 1 s) ∙ sym (marked-after s c.if-s-eq0.false)
+pub returns-in-len1-up : goal.returns-in-len1-up
+unfolding marked_in
+returns-in-len1-up c = rw (headed c.args.s.now c.in-len1-up.len_at_least) c.read_byte_number.ensures

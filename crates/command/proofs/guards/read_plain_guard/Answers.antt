@@ -1,16 +1,23 @@
-use Rattle.std.proofs.Common.{false, sym, ap, ◌∙◌}
-use Rattle.command.specs.Commands.{guard_from}
-use Rattle.command.proofs.Leading.{part-rest}
-use Rattle.command.proofs.Heads.{guard_none, guard-disabled, guard-enabled}
+use Rattle.std.proofs.Common.{◌≡◌, get_or, arith}
+use borrow.Author.Tests.{ne_eqb}
+use Rattle.command.specs.Commands.{plain_guard_in}
+use Rattle.command.proofs.Heads.{empty_of, headed}
 use Rattle.command.proofs.guards.read_plain_guard.Goals as goal
 
-pub returns-then-s-eq0 : goal.returns-then-s-eq0
-returns-then-s-eq0 c = sym (guard_none _ c.if-s-eq0.true)
+pub returns-in-empty : goal.returns-in-empty
+unfolding plain_guard_in
+returns-in-empty c = rw (empty_of c.args.s.now c.in-empty.len_below)
 
-pub returns-then-s-eq45 : goal.returns-then-s-eq45
-returns-then-s-eq45 c =
+pub returns-in-45 : goal.returns-in-45
+unfolding plain_guard_in
+returns-in-45 c =
     let s = c.args.s.now in
-    c.guard_from.ensures ∙ ap (guard_from false) (part-rest 1 s) ∙ sym (guard-disabled s c.if-s-eq0.false c.if-s-eq45.true)
+    let e : get_or s 0 0 ≡ 45 = omega arith in
+    rw (headed s c.in-45.len_at_least, e) c.guard_from.ensures
 
-pub returns : goal.returns
-returns c = c.guard_from-2.ensures ∙ sym (guard-enabled _ c.if-s-eq0.false c.if-s-eq45.false)
+pub returns-in_default : goal.returns-in_default
+unfolding plain_guard_in
+returns-in_default c =
+    let s = c.args.s.now in
+    let n : get_or s 0 0 ≡ 45 → ⊥ = λ e. omega (arith, e) in
+    rw (headed s c.in_default.len_at_least, ne_eqb _ _ n, ← headed s c.in_default.len_at_least) c.guard_from-in_default.ensures

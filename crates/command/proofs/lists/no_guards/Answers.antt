@@ -3,4 +3,4 @@ use Rattle.command.proofs.lists.no_guards.Goals as goal
 
 pub returns : goal.returns
 unfolding lent slots
-returns c = rw c.blank_guard-blank.ensures
+returns c = rw c.blank_guard.ensures

@@ -1,34 +1,17 @@
-use Prim.Native.Char.{code}
-use Rattle.std.proofs.Common.{ℕ, List, sym, ap, ◌∙◌, arith}
-use Rattle.std.proofs.Math.Seq.{length-take-le}
-use Rattle.command.specs.Commands.{is_not, guards_in, offer_in}
-use Rattle.command.specs.Private.{as_offer, fields_after}
-use Rattle.command.proofs.Leading.{leading-within, part-rest}
+use Rattle.std.proofs.Common.{arith}
+use Rattle.std.proofs.lemmas.Grind.{common_steps}
+use Rattle.command.specs.Commands.{offer_in}
 use Rattle.command.proofs.Cuts.{fields-cut}
 use Rattle.command.proofs.offers.parse_offer.Goals as goal
 
-pub slice_bounds-read_byte_number-end : goal.slice_bounds-read_byte_number-end
-slice_bounds-read_byte_number-end c =
-    let s = c.args.s.now in
-    let n = c.length_before-end in
-    sym (length-take-le n.result s (leading-within (is_not (code " ")) s n.result n.ensures))
-
-pub slice_bounds-offer_of-count : goal.slice_bounds-offer_of-count
-slice_bounds-offer_of-count c =
-    omega (arith, leading-within (is_not (code " ")) c.args.s.now c.length_before-end.result c.length_before-end.ensures)
-
-pub slice_bounds-offer_of-start : goal.slice_bounds-offer_of-start
-slice_bounds-offer_of-start c =
-    omega (arith, leading-within (is_not (code " ")) c.args.s.now c.length_before-end.result c.length_before-end.ensures)
-
-pub returns-in-Malformed : goal.returns-in-Malformed
+pub returns-in_err-p : goal.returns-in_err-p
 unfolding offer_in
-returns-in-Malformed c =
-    rw (fields-cut c.args.s.now, ← c.length_before-end.ensures, ← c.in-Malformed.ensures) c.plain_command.ensures
+returns-in_err-p c = rw (fields-cut c.args.s.now) (grind (arith, common_steps))
 
-pub returns-in-Value : goal.returns-in-Value
+pub returns-in_err-list : goal.returns-in_err-list
 unfolding offer_in
-returns-in-Value c =
-    let s = c.args.s.now in
-    let rest = ap (λ (bs : List ℕ). as_offer c.in-Value.p (guards_in (fields_after bs))) (part-rest c.length_before-end.result s) in
-    rw (fields-cut s, ← c.length_before-end.ensures, ← c.in-Value.ensures) (c.offer_of.ensures ∙ rest)
+returns-in_err-list c = rw (fields-cut c.args.s.now) (grind (arith, common_steps))
+
+pub returns : goal.returns
+unfolding offer_in
+returns c = rw (fields-cut c.args.s.now) (grind (arith, common_steps))

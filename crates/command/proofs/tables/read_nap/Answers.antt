@@ -1,13 +1,14 @@
-use Rattle.std.proofs.Common.{ℕ, List, sym, ap, ◌∙◌}
-use Rattle.command.specs.Commands.{fields, number_in}
-use Rattle.command.proofs.Leading.{part-rest}
-use Rattle.command.proofs.Cuts.{nap-left-out, nap-after}
+use Rattle.std.proofs.Common.{◌-◌, length, take, drop}
+use Rattle.command.specs.Commands.{nap_in}
+use Rattle.command.specs.Private.{fields_after}
+use Rattle.command.proofs.Cuts.{fields-cut, next-cut}
+use Rattle.command.proofs.Heads.{empty_of}
 use Rattle.command.proofs.tables.read_nap.Goals as goal
 
-pub returns-then-s-eq0 : goal.returns-then-s-eq0
-returns-then-s-eq0 c = sym (nap-left-out _ c.if-s-eq0.true)
+pub returns-in-empty : goal.returns-in-empty
+unfolding fields_after nap_in
+returns-in-empty c = rw (empty_of c.args.s.now c.in-empty.len_below)
 
-pub returns : goal.returns
-returns c =
-    let s = c.args.s.now in
-    c.read_only_number.ensures ∙ ap (λ (bs : List ℕ). number_in (fields bs)) (part-rest 1 s) ∙ sym (nap-after s c.if-s-eq0.false)
+pub returns-in-len1-up : goal.returns-in-len1-up
+unfolding nap_in
+returns-in-len1-up c = let s = c.args.s.now in rw (next-cut s c.in-len1-up.len_at_least, ← fields-cut (take (length s - 1) (drop 1 s))) c.read_only_number.ensures

@@ -9,5 +9,5 @@ pub returns : goal.returns
 returns c =
     let a = c.args in
     let parts = answer_parts a.variant a.a a.b a.m a.word in
-    rw (c.put_bytes-3.ensures, c.word_bytes-number.ensures, c.put_bytes-2.ensures, c.message_bytes-message.ensures, c.put_bytes.ensures)
+    rw (c.put_bytes-3.ensures, c.word_bytes.ensures, c.put_bytes-2.ensures, c.message_bytes.ensures, c.put_bytes.ensures)
     (rw (message-length a.m) at (laid-whole parts (replicate answer_length 0) (rw (message-length a.m, word-length a.word))))

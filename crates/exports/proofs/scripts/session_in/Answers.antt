@@ -10,9 +10,10 @@ pub returns : goal.returns
 unfolding state_in
 returns c =
     rw (
+      c.then_some.ensures,
       c.byte_at-2.ensures,
       c.byte_at.ensures,
-      c.decode-table.ensures,
+      c.decode.ensures,
       c.from-2.ensures,
       c.put_bytes.ensures,
       c.from.ensures,

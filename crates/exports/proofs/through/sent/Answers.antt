@@ -5,7 +5,7 @@ pub returns : goal.returns
 returns c =
     rw (
       c.collected_of.ensures,
-      c.collect-reply.ensures,
+      c.collect.ensures,
       c.stepped-met.ensures,
       c.stepped-2.ensures,
       c.stepped.ensures,

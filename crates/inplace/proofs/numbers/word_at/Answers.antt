@@ -3,4 +3,4 @@ use Rattle.inplace.proofs.Words.{word_in}
 use Rattle.inplace.proofs.numbers.word_at.Goals as goal
 
 pub returns : goal.returns
-returns c = rw (word_in c.args.t.now c.args.at 4 (omega arith), c.wide-4.ensures.is, c.wide-3.ensures.is, c.wide-2.ensures.is, c.wide.ensures.is)
+returns c = omega (arith, c.from_le_bytes.ensures, word_in c.args.t.now c.args.at 4 (omega arith))

@@ -32,6 +32,6 @@ returns c =
     let left : ticket < 4294967295 = omega (arith, next.type_inv, c.if-next.false) in
     let l : table_length ≤ length t' = omega (arith, c.requires.1.0, c.put_bytes.auto.out) in
     let r = c.entered.new.r in
-    let w = wrote-sets t 4 4 (word_bytes (ticket + 1)) t' refl (omega (arith, c.requires.1.0)) (c.put_bytes.ensures ∙ ap (sets t 4) c.word_bytes-following.ensures) in
+    let w = wrote-sets t 4 4 (word_bytes (ticket + 1)) t' refl (omega (arith, c.requires.1.0)) (c.put_bytes.ensures ∙ ap (sets t 4) c.word_bytes.ensures) in
     let v = row_back t' r p l c.requires.0 c.entered.auto.r in
     offer-left t p c.args.list c.requires.1 c.requires.0 c.requires.2 c.if-t-a-ne0.false ticket t' _ r next.ensures left w v (rw (← row-lent t' p) c.entered.ensures)

@@ -16,10 +16,10 @@ use Rattle.inplace.proofs.Ready.{meetings-fit}
 use Rattle.inplace.proofs.Pairs.{apart, commit-steps}
 use Rattle.inplace.proofs.step.commit_in.Goals as goal
 
-pub overflow_add-long_at : goal.overflow_add-long_at
-overflow_add-long_at c =
+pub overflow_add-meetings : goal.overflow_add-meetings
+overflow_add-meetings c =
     let small : (k : ℕ) → Fits w8 (byte c.args.t.now k) = λ k. search rules in
-    omega (arith, c.long_at.ensures, meetings-fit c.args.t.now c.args.p c.requires.0.2 small)
+    omega (arith, c.long_at-meetings.ensures, meetings-fit c.args.t.now c.args.p c.requires.0.2 small)
 
 pub returns : goal.returns
 unfolding head_of
@@ -31,10 +31,10 @@ returns c =
     let small : (k : ℕ) → Fits w8 (byte t k) = λ k. search rules in
     let t₁ = c.put_bytes.new.out in
     let n₁ : length t₁ ≡ length t = c.put_bytes.auto.out in
-    let m = c.long_at.result + 1 in
-    let fits : m < 2 ^ 64 = omega (arith, c.long_at.ensures, meetings-fit t p paired.2 small) in
-    let e : m ≡ (head_of t).meetings + 1 = ap (λ (k : ℕ). k + 1) c.long_at.ensures in
-    let u = wrote-sets t 8 8 (long_bytes m) t₁ (long-length m) (omega (arith, paired.2.0)) (c.put_bytes.ensures ∙ ap (sets t 8) c.long_bytes-meetings.ensures) in
+    let m = c.long_at-meetings.result + 1 in
+    let fits : m < 2 ^ 64 = omega (arith, c.long_at-meetings.ensures, meetings-fit t p paired.2 small) in
+    let e : m ≡ (head_of t).meetings + 1 = ap (λ (k : ℕ). k + 1) c.long_at-meetings.ensures in
+    let u = wrote-sets t 8 8 (long_bytes m) t₁ (long-length m) (omega (arith, paired.2.0)) (c.put_bytes.ensures ∙ ap (sets t 8) c.long_bytes.ensures) in
     let v = row_back t₁ c.closed.new.r q (omega (arith, paired.2.0, n₁)) paired.1 c.closed.auto.r in
     let t₂ = take (record_start q) t₁ ++ (c.closed.new.r ++ drop ((record_start q + 256) - record_start q) (drop (record_start q) t₁)) in
     let w = row_back t₂ c.committed.new.r p (omega (arith, paired.2.0, n₁, v.long)) paired.0 c.committed.auto.r in

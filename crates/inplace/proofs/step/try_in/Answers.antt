@@ -4,11 +4,11 @@ use native.Mathlib.Nat.{le_of_eq}
 use Rattle.inplace.proofs.Rows.{byte_of, row-lent, row-long, row-byte, row_back}
 use Rattle.inplace.proofs.Ready.{count_most, altcount-most, index_below}
 use Rattle.inplace.proofs.Pairs.{other-ready, index-most, partner-guard, keeps-by, pass-steps}
-use Rattle.inplace.proofs.step.try_in.Goals.{then-t-b-ne0+in-Missing, else-t-b-ne0}
+use Rattle.inplace.proofs.step.try_in.Goals.{then-t-b-ne0+in_default, else-t-b-ne0}
 use Rattle.inplace.proofs.step.try_in.Goals as goal
 
-pub kept_in-requires : goal.kept_in-requires
-kept_in-requires c =
+pub kept_in-kept-requires : goal.kept_in-kept-requires
+kept_in-kept-requires c =
     let t = c.args.t.now in
     let p = c.args.p in
     let q = c.args.q in
@@ -23,7 +23,7 @@ commit_in-requires c =
     let t = c.args.t.now in
     let p = c.args.p in
     let q = c.args.q in
-    (c.requires, keeps-by t p q c.requires c.if-t-b-ne0.true _ (rw (← row-lent t p, ← row-lent t q) (sym c.kept_in.ensures ∙ c.in-At.is)))
+    (c.requires, keeps-by t p q c.requires c.if-t-b-ne0.true _ (rw (← row-lent t p, ← row-lent t q) (sym c.kept_in-kept.ensures ∙ c.in-Some.is)))
 
 pub overflow_add-i-2 : goal.overflow_add-i-2
 overflow_add-i-2 c = omega (arith, index-most c.args.t.now c.args.p c.args.q c.requires (omega arith) (omega arith))
@@ -44,7 +44,7 @@ returns c =
     let i = byte_of t p 1 (omega arith) in
     pass-steps t _ p q done.new.r c.requires
     (elim c.if-t-b-ne0.branch [
-      | then-t-b-ne0+in-Missing v ↦ inr (rw (i, ← row-lent t p, ← row-lent t q) (sym v.kept_in.ensures ∙ v.in-Missing.is))
+      | then-t-b-ne0+in_default v ↦ inr (rw (i, ← row-lent t p, ← row-lent t q) (sym v.kept_in-kept.ensures ∙ v.in_default.is))
       | else-t-b-ne0 v ↦ inl v.if-t-b-ne0.false
     ])
     w (rw (i, ← row-lent t p) done.ensures)

@@ -17,10 +17,10 @@ returns-then-tag c = nothing_left _ _ _ _ _ (withdraw-refused c.args.t.now c.arg
 pub returns-then-is_late : goal.returns-then-is_late
 returns-then-is_late c = nothing_left _ _ _ _ _ (withdraw-late c.args.t.now c.args.p c.requires.1 c.if-tag.false (sym c.is_late.ensures ∙ c.if-is_late.true)) refl
 
-pub overflow_add-long_at : goal.overflow_add-long_at
-overflow_add-long_at c =
+pub overflow_add-withdrawn : goal.overflow_add-withdrawn
+overflow_add-withdrawn c =
     let small : (k : ℕ) → Fits w8 (byte c.args.t.now k) = λ k. search rules in
-    omega (arith, c.long_at.ensures, totals-small c.args.t.now c.args.p c.requires.1 (λ k. omega (arith, small k)))
+    omega (arith, c.long_at-withdrawn.ensures, totals-small c.args.t.now c.args.p c.requires.1 (λ k. omega (arith, small k)))
 
 pub returns : goal.returns
 returns c =
@@ -32,7 +32,7 @@ returns c =
     let up = c.given_up in
     given-up-left t p c.requires.1 c.if-tag.false (sym c.is_late.ensures ∙ c.if-is_late.false)
     (λ k. omega (arith, small k))
-    _ c.long_at.ensures t₁ _ up.new.r
-    (c.put_bytes.ensures ∙ ap (sets t 16) c.long_bytes-withdrawn.ensures)
+    _ c.long_at-withdrawn.ensures t₁ _ up.new.r
+    (c.put_bytes.ensures ∙ ap (sets t 16) c.long_bytes.ensures)
     (row_back t₁ up.new.r p long c.requires.0 up.auto.r)
     (up.ensures ∙ ap (λ (r : List ℕ). given_up (process_of r)) (row-lent t₁ p))

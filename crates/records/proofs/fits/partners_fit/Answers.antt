@@ -3,16 +3,16 @@ use Rattle.records.proofs.Guards.{left-start, left-more, left_end}
 use Rattle.records.proofs.fits.partners_fit.Goals as goal
 
 pub loop-k-init : goal.loop-k-init
-loop-k-init c = let a = c.args in (omega arith, λ b. left-start a.r.now a.at b a.n a.p a.count)
+loop-k-init c = let a = c.args in λ b. left-start a.r.now a.at b a.n a.p a.count
 
 pub loop-k-preserved : goal.loop-k-preserved
 loop-k-preserved c =
     let a = c.args in
     let l = c.loop-k in
-    (omega arith, λ b. left-more a.r.now a.at b a.n a.p a.count l.ok l.k (omega arith) (l.invariant.1 b))
+    λ b. left-more a.r.now a.at b a.n a.p a.count l.ok l.k (omega arith) (l.invariant b)
 
 pub returns : goal.returns
 returns c =
     let a = c.args in
     let l = c.loop-k in
-    λ b. left_end a.r.now a.at b a.n a.p a.count l.ok l.k (omega arith) (l.invariant.1 b)
+    λ b. left_end a.r.now a.at b a.n a.p a.count l.ok l.k (omega arith) (l.invariant b)

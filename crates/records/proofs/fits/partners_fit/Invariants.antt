@@ -1,10 +1,7 @@
-use Rattle.std.proofs.Common.{ℕ, ◌≤◌, ◌-◌}
+use Rattle.std.proofs.Common.{ℕ}
 use Rattle.records.proofs.Guards.{Left}
 use Rattle.records.proofs.fits.partners_fit.Given as goal
 
 -- what is known after k partners
 abbrev pub invariant-loop-k : goal.invariant-loop-k
-invariant-loop-k l = (l.k ≤ 8) × ((b : ℕ) → Left l.r l.at b l.n l.p l.count l.ok l.k)
-
-abbrev pub decreases-loop-k : goal.decreases-loop-k
-decreases-loop-k l = 8 - l.k
+invariant-loop-k l = (b : ℕ) → Left l.r l.at b l.n l.p l.count l.ok l.k

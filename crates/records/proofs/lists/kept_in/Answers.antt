@@ -9,18 +9,15 @@ loop-k-preserved c =
     let s = c.requires in
     let l = c.loop-k in
     let i = l.invariant in
-    let turn = c.matches.ensures in (
-      i.0,
-      omega arith,
-      elim c.if-matches-least.branch [
-        | then-matches-least w ↦ rw (w.kept-is, w.least-is) (turn-takes a.p a.x.now a.y.now a.i a.q s.2 s.3 s.4 s.5 l.k c.loop-k-test.true l.kept l.least i.2 (rw (← turn) w.if-matches-least.true))
-        | else-matches-least w ↦ rw (w.kept-is, w.least-is) (turn-leaves a.p a.x.now a.y.now a.i a.q s.2 s.3 s.4 s.5 l.k c.loop-k-test.true l.kept l.least i.2 (rw (← turn) w.if-matches-least.false))
-      ],
-    )
+    let turn = c.matches.ensures in
+    elim c.if-matches-least.branch [
+      | then-matches-least w ↦ rw (w.kept-is, w.least-is) (turn-takes a.p a.x.now a.y.now a.i a.q s.2 s.3 s.4 s.5 l.k c.loop-k-test.true l.kept l.least i (rw (← turn) w.if-matches-least.true))
+      | else-matches-least w ↦ rw (w.kept-is, w.least-is) (turn-leaves a.p a.x.now a.y.now a.i a.q s.2 s.3 s.4 s.5 l.k c.loop-k-test.true l.kept l.least i (rw (← turn) w.if-matches-least.false))
+    ]
 
 pub returns : goal.returns
 returns c =
     let a = c.args in
     let s = c.requires in
     let l = c.loop-k in
-    turn_last a.p a.x.now a.y.now a.i a.q s.2 s.3 s.4 s.5 l.k l.kept l.least (omega arith) l.invariant.2
+    turn_last a.p a.x.now a.y.now a.i a.q s.2 s.3 s.4 s.5 l.k l.kept l.least (omega arith) l.invariant

@@ -1,4 +1,3 @@
-use Rattle.std.proofs.Common.{◌≤◌, ◌-◌}
 use Rattle.alternative.specs.Guards.{guards_match}
 use Rattle.alternative.proofs.Kept.{SoFar}
 use Rattle.process.specs.Process.{own_guard, posted_list}
@@ -8,7 +7,4 @@ use Rattle.records.proofs.lists.kept_in.Given as goal
 -- what is kept of the first k posted guards, and the least rank that takes its place
 abbrev pub invariant-loop-k : goal.invariant-loop-k
 invariant-loop-k l =
-    (l.count ≤ 8) × (l.k ≤ l.count) × SoFar (guards_match l.p (own_guard (process_of l.x) l.i) l.q) (posted_list (process_of l.y)) l.k l.kept l.least
-
-abbrev pub decreases-loop-k : goal.decreases-loop-k
-decreases-loop-k l = l.count - l.k
+    SoFar (guards_match l.p (own_guard (process_of l.x) l.i) l.q) (posted_list (process_of l.y)) l.k l.kept l.least

@@ -1,4 +1,4 @@
-use Rattle.std.proofs.Common.{◌≡◌, arith, length}
+use Rattle.std.proofs.Common.{arith}
 use Rattle.records.proofs.Cuts.{wrote-copy}
 use Rattle.records.proofs.Records.{posted-is}
 use Rattle.records.proofs.writes.posted.Goals as goal
@@ -6,8 +6,8 @@ use Rattle.records.proofs.writes.posted.Goals as goal
 pub returns : goal.returns
 returns c =
     let r = c.args.r.now in
-    let r₁ = c.copied.new.r in
-    let r₂ = c.copied-2.new.r in
-    let n : length r₁ ≡ length r = c.copied.auto.r in
-    let m : length r₂ ≡ length r₁ = c.copied-2.auto.r in
-    posted-is r r₁ r₂ (omega arith) (wrote-copy r 8 16 8 r₁ (omega arith) (omega arith) c.copied.ensures) (wrote-copy r₁ 48 152 104 r₂ (omega arith) (omega arith) c.copied-2.ensures)
+    let partners = c.copy_within in
+    let rest = c.copy_within-2 in
+    posted-is r partners.new.self rest.new.self (omega (arith, partners.ensures.len, rest.ensures.len))
+    (wrote-copy r 8 16 8 _ (omega arith) (omega arith) partners.ensures.after)
+    (wrote-copy partners.new.self 48 152 104 _ (omega (arith, partners.ensures.len)) (omega (arith, partners.ensures.len)) rest.ensures.after)

@@ -1,10 +1,10 @@
 use Rattle.rendezvous.specs.Calls.{create}
 use Rattle.rendezvous.proofs.ProcessTable.create.Goals as goal
 
-pub returns-in-Accepted : goal.returns-in-Accepted
+pub returns-in-Ok : goal.returns-in-Ok
 unfolding create
-returns-in-Accepted c = rw (← c.create_verdict.ensures, c.in-Accepted.is, c.fresh_table-table.ensures)
+returns-in-Ok c = rw (← c.create_verdict.ensures, c.in-Ok.is, c.fresh_table-table.ensures)
 
-pub returns-in-Refused : goal.returns-in-Refused
+pub returns-in-Err : goal.returns-in-Err
 unfolding create
-returns-in-Refused c = rw (← c.create_verdict.ensures, c.in-Refused.is, c.fresh_table-table.ensures, c.fresh_head-head.ensures)
+returns-in-Err c = rw (← c.create_verdict.ensures, c.in-Err.is, c.fresh_table-table.ensures, c.fresh_head-table.ensures)

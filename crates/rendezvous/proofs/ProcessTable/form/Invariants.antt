@@ -1,9 +1,5 @@
-use Rattle.std.proofs.Common.{◌-◌, ◌≤◌}
 use Rattle.rendezvous.proofs.Forms.{FormAt}
 use Rattle.rendezvous.proofs.ProcessTable.form.Given as goal
 
 abbrev pub invariant-loop-k : goal.invariant-loop-k
-invariant-loop-k l = (l.k ≤ l.head.n) × FormAt l.self l.k l.form
-
-abbrev pub decreases-loop-k : goal.decreases-loop-k
-decreases-loop-k l = l.head.n - l.k
+invariant-loop-k l = FormAt l.self l.k l.form

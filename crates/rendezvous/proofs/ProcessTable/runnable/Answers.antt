@@ -1,43 +1,35 @@
-use Rattle.std.proofs.Common.{◌-◌, arith, sym, ◌∙◌}
+use Rattle.std.proofs.Common.{◌≡◌, ◌-◌, ◌<◌, ◌*◌, ◌+◌, ◌^◌, true, arith, sym, ◌∙◌}
 use Rattle.rendezvous.specs.Table.{most_processes}
-use Rattle.rendezvous.proofs.Forms.{form-start, form-more, form_of, formed-most}
+use Rattle.rendezvous.specs.WellFormed.{well_formed}
+use Rattle.rendezvous.proofs.Forms.{formed-most}
 use Rattle.rendezvous.proofs.Steps.{member-read}
 use Rattle.rendezvous.proofs.Sets.{bit-most, above-start, above_more, above-end, above-fits, runnable-gives, runnable-refused}
 use Rattle.rendezvous.proofs.ProcessTable.runnable.Goals as goal
+use Rattle.rendezvous.proofs.ProcessTable.runnable.Goals.{Then-formed, After-record-y}
 
-pub loop-k-init : goal.loop-k-init
-loop-k-init c = (omega arith, form-start _ _ c.form_start-form.ensures)
+formed : (c : Then-formed) → well_formed c.args.self ≡ true
+formed c = sym (c.form_end-formed.ensures ∙ c.form.ensures) ∙ c.if-formed.true
 
-pub loop-k-preserved : goal.loop-k-preserved
-loop-k-preserved c = (omega arith, form-more _ c.loop-k.k _ _ _ (omega arith) c.loop-k.invariant.1 c.committed_to.ensures c.form_more-form.ensures)
+-- one bit more fits
+room : (c : After-record-y) → c.loop-p.set * 2 + 1 < 2 ^ most_processes
+room c = above-fits _ _ c.loop-p.p c.loop-p.set most_processes (omega arith) (omega arith) (formed-most _ (formed (goal.at.overflow_mul-set c).Then-formed)) c.loop-p.invariant
 
 pub loop-p-init : goal.loop-p-init
-loop-p-init c =
-    let formed = sym (c.form_end-formed.ensures ∙ form_of _ c.loop-k.k _ (omega arith) c.loop-k.invariant.1) ∙ c.if-formed.true in
-    (omega arith, formed-most _ formed, above-start _ _)
+loop-p-init c = above-start _ _
 
 pub overflow_mul-set : goal.overflow_mul-set
-overflow_mul-set c = omega (arith, above-fits _ _ c.loop-p.p c.loop-p.set most_processes (omega arith) (omega arith) c.loop-p.invariant.1 c.loop-p.invariant.2)
+overflow_mul-set c = omega (arith, room c)
 
 pub overflow_add-set : goal.overflow_add-set
-overflow_add-set c =
-    omega (
-      arith,
-      c.lowest.ensures,
-      above-fits _ _ c.loop-p.p c.loop-p.set most_processes (omega arith) (omega arith) c.loop-p.invariant.1 c.loop-p.invariant.2,
-      bit-most c.would_change.result,
-    )
+overflow_add-set c = omega (arith, c.lowest.ensures, room (goal.at.overflow_add-set c).After-record-y, bit-most c.would_change.result)
 
 pub loop-p-preserved : goal.loop-p-preserved
 loop-p-preserved c =
-    let formed = sym (c.form_end-formed.ensures ∙ form_of _ c.loop-k.k _ (omega arith) c.loop-k.invariant.1) ∙ c.if-formed.true in
-    let member = member-read _ (c.loop-p.p - 1) _ _ formed (omega arith) c.partner-q.ensures c.would_change.ensures in
-    (omega arith, c.loop-p.invariant.1, above_more _ _ (c.loop-p.p - 1) c.loop-p.p _ _ _ (omega arith) member c.lowest.ensures c.loop-p.invariant.2)
+    let member = member-read _ (c.loop-p.p - 1) _ _ _ _ (formed (goal.at.loop-p-preserved c).Then-formed) (omega arith) c.record-x.ensures c.partner.ensures c.record-y.ensures c.would_change.ensures in
+    above_more _ _ (c.loop-p.p - 1) c.loop-p.p _ _ _ (omega arith) member c.lowest.ensures c.loop-p.invariant
 
 pub returns-after-loop-p : goal.returns-after-loop-p
-returns-after-loop-p c =
-    let formed = sym (c.form_end-formed.ensures ∙ form_of _ c.loop-k.k _ (omega arith) c.loop-k.invariant.1) ∙ c.if-formed.true in
-    runnable-gives _ _ formed (above-end _ _ _ _ (omega arith) c.loop-p.invariant.2)
+returns-after-loop-p c = runnable-gives _ _ (formed (goal.at.returns-after-loop-p c).Then-formed) (above-end _ _ _ _ (omega arith) c.loop-p.invariant)
 
 pub returns-else-formed : goal.returns-else-formed
-returns-else-formed c = runnable-refused _ (sym (c.form_end-formed.ensures ∙ form_of _ c.loop-k.k _ (omega arith) c.loop-k.invariant.1) ∙ c.if-formed.false)
+returns-else-formed c = runnable-refused _ (sym (c.form_end-formed.ensures ∙ c.form.ensures) ∙ c.if-formed.false)

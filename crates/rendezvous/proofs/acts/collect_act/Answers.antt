@@ -2,23 +2,24 @@ use Rattle.std.proofs.Common.{sym, ◌∙◌}
 use Rattle.rendezvous.specs.Acts.{collect_act}
 use Rattle.rendezvous.proofs.acts.collect_act.Goals as goal
 
-pub returns-in-Refused : goal.returns-in-Refused
+pub returns-in-Err : goal.returns-in-Err
 unfolding collect_act
-returns-in-Refused c = rw (← c.form_end.ensures, ← c.process_verdict.ensures, c.in-Refused.is) c.alone.ensures
+returns-in-Err c = rw (← c.form_end.ensures, ← c.process_verdict.ensures, c.in-Err.is) c.alone.ensures
 
-pub returns-in-Absent : goal.returns-in-Absent
+pub returns-in-None : goal.returns-in-None
 unfolding collect_act
-returns-in-Absent c = rw (← c.form_end.ensures, ← c.process_verdict.ensures, c.in-Accepted.is, sym c.outcome.ensures ∙ c.in-Absent.is) c.alone-in-Absent.ensures
+returns-in-None c = rw (← c.form_end.ensures, ← c.process_verdict.ensures, c.in-Ok.is, sym c.outcome.ensures ∙ c.in-None.is) c.alone-in-None.ensures
 
-pub returns-in-Present : goal.returns-in-Present
+pub returns-in-Some : goal.returns-in-Some
 unfolding collect_act
-returns-in-Present c =
+returns-in-Some c =
     rw (
       ← c.form_end.ensures,
       ← c.process_verdict.ensures,
-      c.in-Accepted.is,
-      sym c.outcome.ensures ∙ c.in-Present.is,
+      c.in-Ok.is,
+      sym c.outcome.ensures ∙ c.in-Some.is,
+      ← c.own_list.ensures.value,
       ← c.guard_at-g.ensures,
       ← c.at_place.ensures,
     )
-    c.alone-in-Present.ensures
+    c.alone-in-Some.ensures

@@ -1,11 +1,14 @@
 use Rattle.rendezvous.specs.Acts.{step_act}
 use Rattle.rendezvous.proofs.acts.step_act.Goals as goal
 
-pub returns-in-Refused : goal.returns-in-Refused
+pub returns-in-Err : goal.returns-in-Err
 unfolding step_act
-returns-in-Refused c = rw (← c.form_end.ensures, ← c.process_verdict.ensures, c.in-Refused.is) c.alone.ensures
+returns-in-Err c = rw (← c.form_end.ensures, ← c.process_verdict.ensures, c.in-Err.is) c.alone.ensures
 
-pub returns-in-Accepted : goal.returns-in-Accepted
+pub returns-in-None : goal.returns-in-None
 unfolding step_act
-returns-in-Accepted c =
-    rw (← c.form_end.ensures, ← c.process_verdict.ensures, c.in-Accepted.is, ← c.rule-c.ensures, c.moved_answer.ensures, ← c.head_after-after.ensures)
+returns-in-None c = rw (← c.form_end.ensures, ← c.process_verdict.ensures, c.in-Ok.is, ← c.rule.ensures, c.in-None.is) c.alone-in-None.ensures
+
+pub returns-in-Some : goal.returns-in-Some
+unfolding step_act
+returns-in-Some c = rw (← c.form_end.ensures, ← c.process_verdict.ensures, c.in-Ok.is, ← c.rule.ensures, c.in-Some.is, c.head_after.ensures, c.is_some.ensures)

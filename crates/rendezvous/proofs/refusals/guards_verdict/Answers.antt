@@ -1,39 +1,25 @@
-use Rattle.std.proofs.Common.{arith, sym}
+use Rattle.std.proofs.Common.{arith, sym, ◌≤◌, add-one, drop-cons, length}
+use lib.ListN.{drop_of_length-le}
 use Rattle.alternative.specs.Guards.{blank}
-use Rattle.alternative.proofs.Rest.{rest_at, rest_end}
 use Rattle.rendezvous.specs.Refusals.{require_guards}
 use Rattle.rendezvous.proofs.refusals.guards_verdict.Goals as goal
 
-pub returns-then-k-ge8 : goal.returns-then-k-ge8
-unfolding require_guards
-returns-then-k-ge8 c = rw (c.loop-k.invariant.1, rest_end c.args.guards c.args.count c.loop-k.k (omega arith))
-
 pub returns-then-not-partner_fits : goal.returns-then-not-partner_fits
 unfolding require_guards
-returns-then-not-partner_fits c = rw (c.loop-k.invariant.1, rest_at c.args.guards c.args.count c.loop-k.k blank (omega arith) (omega arith), sym c.if-not-partner_fits.ensures)
+returns-then-not-partner_fits c = rw (c.loop-g.invariant, drop-cons c.args.guards.now c.loop-g.g-index blank (omega arith), sym c.if-not-partner_fits.ensures)
 
 pub returns-then-action_holds_nan : goal.returns-then-action_holds_nan
 unfolding require_guards
 returns-then-action_holds_nan c =
-    rw (
-      c.loop-k.invariant.1,
-      rest_at c.args.guards c.args.count c.loop-k.k blank (omega arith) (omega arith),
-      sym c.if-not-partner_fits.ensures,
-      sym c.if-action_holds_nan.ensures,
-    )
+    rw (c.loop-g.invariant, drop-cons c.args.guards.now c.loop-g.g-index blank (omega arith), sym c.if-not-partner_fits.ensures, sym c.if-action_holds_nan.ensures)
 
-pub loop-k-preserved : goal.loop-k-preserved
+pub loop-g-preserved : goal.loop-g-preserved
 unfolding require_guards
-loop-k-preserved c = (
-  c.loop-k.invariant.0,
-  rw (
-    c.loop-k.invariant.1,
-    rest_at c.args.guards c.args.count c.loop-k.k blank (omega arith) (omega arith),
-    sym c.if-not-partner_fits.ensures,
-    sym c.if-action_holds_nan.ensures,
-  ),
-)
+loop-g-preserved c =
+    rw (c.loop-g.invariant, add-one, drop-cons c.args.guards.now c.loop-g.g-index blank (omega arith), sym c.if-not-partner_fits.ensures, sym c.if-action_holds_nan.ensures)
 
 pub returns : goal.returns
 unfolding require_guards
-returns c = rw (c.loop-k.invariant.1, rest_end c.args.guards c.args.count c.loop-k.k (omega arith))
+returns c =
+    let end : length c.args.guards.now ≤ c.loop-g.g-index = omega arith in
+    rw (c.loop-g.invariant, drop_of_length-le c.args.guards.now end)

@@ -1,6 +1,9 @@
-use Rattle.std.proofs.Common.{sym, ◌∙◌, drop}
-use Rattle.wire.proofs.Lists.{sets-past}
+use Rattle.std.proofs.Common.{sym, arith}
+use Rattle.wire.proofs.Lists.{sets-past, sets-cut}
 use Rattle.wire.proofs.bytes.put_bytes.Goals as goal
 
-pub returns-then-out-k : goal.returns-then-out-k
-returns-then-out-k c = sym (sets-past c.loop-i.out c.loop-i.k (drop c.loop-i.i c.args.bytes.now) c.if-out-k.true) ∙ c.loop-i.invariant.1
+pub returns-then-at-out : goal.returns-then-at-out
+returns-then-at-out c = sets-cut c.args.out.now c.args.at c.args.bytes.now _ c.min-n.result _ c.if-at-out.true (omega arith) (omega arith) c.copy_from_slice.ensures.after
+
+pub returns-else-at-out : goal.returns-else-at-out
+returns-else-at-out c = sym (sets-past c.args.out.now c.args.at c.args.bytes.now c.if-at-out.false)

@@ -11,8 +11,8 @@ unfolding lent offer_of
 returns c =
     let s = c.args.bytes.now in
     rw (
-      c.blanked-guards.ensures,
-      c.guards_of-eight.ensures,
+      c.blanked.ensures,
+      c.guards_of.ensures,
       same-slots s (length s / guard_length),
       each-count guard_of guard_length (length s / guard_length) s,
     )

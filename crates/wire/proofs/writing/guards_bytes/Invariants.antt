@@ -1,4 +1,3 @@
-use Rattle.std.proofs.Common.{◌-◌}
 use Rattle.alternative.specs.Guards.{most_guards}
 use Rattle.wire.specs.Layout.{guard_length}
 use Rattle.wire.specs.Writing.{guard_bytes}
@@ -7,6 +6,3 @@ use Rattle.wire.proofs.writing.guards_bytes.Given as goal
 
 abbrev pub invariant-loop-k : goal.invariant-loop-k
 invariant-loop-k l = WrittenTo guard_bytes guard_length most_guards l.guards 0 l.initial.out l.k l.out
-
-abbrev pub decreases-loop-k : goal.decreases-loop-k
-decreases-loop-k l = 8 - l.k
