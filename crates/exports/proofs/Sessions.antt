@@ -1,8 +1,6 @@
 -- A session's bytes, written part by part, are read as its state; and a text put at the front.
 use Prim.Native.Nat.{ℕ, zero, suc, ◌≤◌, min}
 use mathlib.Core.Path.{◌≡◌, refl, sym, ap, ◌∙◌}
-use Rattle.std.specs.Prelude.{Option, Some, None, is_some}
-use Rattle.std.specs.Option.{unwrap_or}
 use Rattle.std.specs.Bool.{then_some}
 use mathlib.Core.Bool.{Bool, true, cond, true≢false}
 use mathlib.Core.List.{List, [], ◌∷◌, ◌++◌, flatten, append_assoc, append-nil}
@@ -44,11 +42,6 @@ unfolding onto
 table-whole t l e =
     let gone : drop table_length l ≡ [] = ap (λ (n : ℕ). drop n l) (sym e) ∙ drop-length l in
     rw (le-leb table_length (length l) (omega arith)) (ap (λ (r : List ℕ). bytes_of t ++ r) gone ∙ append-nil (bytes_of t))
-
--- a session's table as its bytes have it: whether one was made, and the table, or another where none was
-pub held-table : (o : Option ProcessTable) (other : ProcessTable) → then_some (is_some o) (unwrap_or o other) ≡ o
-held-table None other = refl
-held-table (Some t) other = refl
 
 module _ (s : Session) (long : length s.bytes ≡ begun_length) (made : Bool) (t : ProcessTable) (same : then_some made t ≡ s.table) (table : Faithful t) where
   -- two bytes, the begun line's, the table's

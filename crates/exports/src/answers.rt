@@ -68,6 +68,8 @@ pub fn is_table(bytes: &[u8]) -> bool
 }
 
 // Writes a reply into two buffers and says that it did; writes nothing if one of them is too short, or if the table that was read (`read`) was.
+// A call of it would keep one more copy of the table on the stack.
+#[inline(always)]
 pub fn give(read: bool, reply: Reply, table: &mut [u8], answer: &mut [u8]) -> bool
     ensures { Gives read reply table.old answer.old table.new answer.new result }
 {

@@ -13,7 +13,7 @@ ghost use Rattle.exports.specs.Answers.{is_table, Gives};
 ghost use Rattle.exports.specs.Scripts.{Stored, Feeds, Finishes, ByCalls};
 
 use rendezvous::ProcessTable;
-use wire::{decode, offer_of};
+use wire::{decode, from, offer_of};
 
 mod answers;
 mod layout;
@@ -99,7 +99,7 @@ pub extern "C" fn rendezvous_runnable(table: &[u8], out: &mut [u8], answer: &mut
 pub extern "C" fn rendezvous_script_start(state: &mut [u8]) -> bool
     ensures { Stored true start state.old state.new result }
 {
-    put_session(script::start(), state)
+    put_session(script::start(), None, state)
 }
 
 // Feeds a piece of the input: as many of its bytes as `out` has room for, a line for each. `taken` and `filled` are set to how many were taken
@@ -125,7 +125,8 @@ pub extern "C" fn rendezvous_script_feed(
     let fed = script::feed(session_in(state), piece, out);
     *taken = fed.taken;
     *filled = fed.filled;
-    put_session(fed.session, after)
+    // where no table was made, what stands in its place in `state` goes on to `after`
+    put_session(fed.session, Some(from(state, layout::TABLE_AT)), after)
 }
 
 // What the end of the input prints, to the front of `out`, and how many bytes that is; nothing if `out` has no room for a line, or if the

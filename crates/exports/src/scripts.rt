@@ -21,21 +21,35 @@ pub fn is_session(bytes: &[u8]) -> bool
 pub fn session_in(state: &[u8]) -> Session
     ensures { state_held result ≡ state_in state.now }
 {
+    // it takes long to read a table, so one that was not made is not read
+    let made = byte_at(state, 0) != 0;
     let mut bytes = [0; BEGUN_BYTES];
     put_bytes(&mut bytes, 0, from(state, layout::BEGUN_AT));
     Session {
         length: byte_at(state, 1) as usize,
         bytes,
-        table: (byte_at(state, 0) != 0).then_some(decode(from(state, layout::TABLE_AT))),
+        table: if made {
+            Some(decode(from(state, layout::TABLE_AT)))
+        } else {
+            None
+        },
     }
 }
 
-// Writes the bytes of a session to the front of `out`, or nothing if `out` is too short, and says whether it wrote.
-pub fn put_session(session: Session, out: &mut [u8]) -> bool
+// Writes the bytes of a session to the front of `out`, or nothing if `out` is too short, and says whether it wrote. Where no table was
+// made, another stands in its place: the one that `unmade` is read as, so that what stood there goes on from call to call, or that of no
+// process.
+pub fn put_session(session: Session, unmade: Option<&[u8]>, out: &mut [u8]) -> bool
     ensures { Stored true (state_held session) out.old out.new result }
 {
-    // where no table was made, that of no process stands in its place
-    let table = session.table.unwrap_or(ProcessTable::create(0, 0).table);
+    // it takes long to make a table, so the one that stands in the place is made only where it is needed
+    let table = match session.table {
+        Some(table) => table,
+        None => match unmade {
+            Some(bytes) => decode(bytes),
+            None => ProcessTable::create(0, 0).table,
+        },
+    };
     // `encode` writes to the front of a buffer, so the table's bytes are laid out apart
     let mut encoded = [0; TABLE_BYTES];
     encode(table, &mut encoded);

@@ -6,7 +6,7 @@ ghost use Rattle.rendezvous.specs.Calls.{offer};
 
 use alternative::{Action, Guard, Message};
 use rendezvous::{Answer, ProcessTable, Refusal, Reply};
-use std::io;
+use std::fmt::Display;
 use std::io::Stdout;
 
 // Offers the first guards of an array, lent as a slice.
@@ -29,28 +29,41 @@ fn nine_guards() -> [Guard; 9] {
     [guard; 9]
 }
 
-fn print_answer(answer: Result<Answer, Refusal>, stdout: Stdout) -> io::Result<()> {
+// Prints a part of a line. One that cannot be printed is left out, and those after it are tried all the same.
+fn print<D: Display + Drop>(part: D, stdout: Stdout) {
+    let _ = print!(stdout; "{part}");
+}
+
+fn print_answer(answer: Result<Answer, Refusal>, stdout: Stdout) {
     match answer {
-        Ok(Answer::Offered(ticket)) => print!(stdout; "ticket {}", ticket.0),
-        Err(refusal) => print!(stdout; "refused by {}", refusal.number()),
-        Ok(Answer::Made) => print!(stdout; "made"),
-        Ok(Answer::Moved(_)) => print!(stdout; "moved"),
-        Ok(Answer::Unchanged) => print!(stdout; "unchanged"),
-        Ok(Answer::Collected(_, _, _)) => print!(stdout; "collected"),
-        Ok(Answer::Withdrawn) => print!(stdout; "withdrawn"),
-        Ok(Answer::TooLate) => print!(stdout; "too late"),
-        Ok(Answer::Runnable(_)) => print!(stdout; "runnable"),
+        Ok(Answer::Offered(ticket)) => {
+            print("ticket ", stdout);
+            print(ticket.0, stdout);
+        }
+        Err(refusal) => {
+            print("refused by ", stdout);
+            print(refusal.number(), stdout);
+        }
+        Ok(Answer::Made) => print("made", stdout),
+        Ok(Answer::Moved(_)) => print("moved", stdout),
+        Ok(Answer::Unchanged) => print("unchanged", stdout),
+        Ok(Answer::Collected(_, _, _)) => print("collected", stdout),
+        Ok(Answer::Withdrawn) => print("withdrawn", stdout),
+        Ok(Answer::TooLate) => print("too late", stdout),
+        Ok(Answer::Runnable(_)) => print("runnable", stdout),
     }
 }
 
-// Offers so many guards for process p, and prints what is answered. What cannot be printed is left out.
+// Offers so many guards for process p, and prints what is answered.
 fn offered(table: ProcessTable, p: u8, count: usize, stdout: Stdout) -> ProcessTable
     requires { count ≤ 9 }
 {
     let reply = lend(table, p, nine_guards(), count);
-    let _ = print!(stdout; "guards {count}: ");
-    let _ = print_answer(reply.answer, stdout);
-    let _ = println!(stdout; "");
+    print("guards ", stdout);
+    print(count, stdout);
+    print(": ", stdout);
+    print_answer(reply.answer, stdout);
+    print("\n", stdout);
     reply.table
 }
 

@@ -13,7 +13,7 @@ use tables::{offered, start};
 
 // Makes `calls` calls by a plan, from a table of n processes, where those past 1 wait with lists of `load` guards. An answer is added
 // at the next turn: where it is told apart right after the call, the compiler parts refused calls from others there, and copies the
-// table once more. The plan is a number, since C calls this.
+// table once more. Each call takes its own reply apart: one reply for all of them would be more copies. The plan is a number, since C calls this.
 #[unsafe(no_mangle)]
 pub extern "C" fn meter_calls(plan: u8, n: u8, load: u8, calls: u64) -> u64 {
     let plan = Plan::from(plan);
@@ -24,15 +24,33 @@ pub extern "C" fn meter_calls(plan: u8, n: u8, load: u8, calls: u64) -> u64 {
     let mut turn: u8 = 0;
     for _ in 0..calls {
         sum = added(sum, answer);
-        let reply = match plan.next_call(turn) {
-            Planned::Offer(p) => t.offer_list(p, offered(p)),
-            Planned::Step(p) => t.step(p),
-            Planned::Collect(p) => t.collect(p),
-            Planned::Withdraw(p) => t.withdraw(p),
-            Planned::Runnable => t.runnable(),
-        };
-        answer = reply.answer;
-        t = reply.table;
+        match plan.next_call(turn) {
+            Planned::Offer(p) => {
+                let reply = t.offer_list(p, offered(p));
+                answer = reply.answer;
+                t = reply.table;
+            }
+            Planned::Step(p) => {
+                let reply = t.step(p);
+                answer = reply.answer;
+                t = reply.table;
+            }
+            Planned::Collect(p) => {
+                let reply = t.collect(p);
+                answer = reply.answer;
+                t = reply.table;
+            }
+            Planned::Withdraw(p) => {
+                let reply = t.withdraw(p);
+                answer = reply.answer;
+                t = reply.table;
+            }
+            Planned::Runnable => {
+                let reply = t.runnable();
+                answer = reply.answer;
+                t = reply.table;
+            }
+        }
         if plan.resets() {
             t.processes[0] = first;
         }

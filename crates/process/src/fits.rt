@@ -53,8 +53,8 @@ fn place_fits(nap: u8, count: u8, altcount: u8, place: Place) -> bool
 }
 
 #[tactic(auto, unfolding(crate::specs::Fits::process_fits))]
-pub fn process_fits(n: u8, nap: u8, p: u8, x: Process, altcount: u8) -> bool
-    ensures { result ≡ process_fits n nap p x altcount }
+pub fn process_fits(n: u8, nap: u8, p: u8, x: &Process, altcount: u8) -> bool
+    ensures { result ≡ process_fits n nap p x.now altcount }
 {
     list_fits(n, p, x.count, &x.guards)
         && list_fits(n, p, x.altcount, &x.altlist)

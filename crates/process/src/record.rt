@@ -60,8 +60,8 @@ impl Process {
     }
 
     // The process that the guard at A, T or C names, and 0 elsewhere.
-    pub fn partner(self) -> u8
-        ensures { result ≡ partner_of self }
+    pub fn partner(&self) -> u8
+        ensures { result ≡ partner_of self.now }
     {
         match self.place.index() {
             Some(i) => guard_at(self.own_list(), i).partner,
@@ -71,8 +71,8 @@ impl Process {
 
     // The process that the guard at C names, and 0 elsewhere: its posted list is the one that the kept index is held against. At A and T
     // no test of a record needs the partner, and so its list is not read there.
-    pub fn committed_to(self) -> u8
-        ensures { result ≡ committed_at self self.place }
+    pub fn committed_to(&self) -> u8
+        ensures { result ≡ committed_at self.now self.now.place }
     {
         match self.place {
             Place::Committed(i, _) => guard_at(self.own_list(), i).partner,

@@ -18,8 +18,8 @@ fn go(own: Process) -> Option<Change>
 
 // To A at the first enabled guard at or after index k, or to P.
 #[tactic(auto, unfolding(crate::specs::Rules::scan_from))]
-fn scan_from(x: Process, k: usize) -> Option<Change>
-    ensures { result ≡ change_of (scan_from x k) }
+fn scan_from(x: &Process, k: usize) -> Option<Change>
+    ensures { result ≡ change_of (scan_from x.now k) }
 {
     match next_enabled(x.own_list(), k) {
         Some(i) => go(x.at_place(Place::Scanning(i))),
@@ -28,8 +28,8 @@ fn scan_from(x: Process, k: usize) -> Option<Change>
 }
 
 // Rule 2, at S after `steps` own steps there: it is left at the nap-th, and those before that are counted.
-fn sleep(nap: u8, x: Process, steps: u8) -> Option<Change>
-    ensures { result ≡ change_of (sleep nap x steps) }
+fn sleep(nap: u8, x: &Process, steps: u8) -> Option<Change>
+    ensures { result ≡ change_of (sleep nap x.now steps) }
 {
     if (steps as usize) + 1 < nap as usize {
         go(x.at_place(Place::Asleep(steps + 1)))
@@ -39,8 +39,8 @@ fn sleep(nap: u8, x: Process, steps: u8) -> Option<Change>
 }
 
 // Rules 3 to 6.
-fn scan(x: Process, y: Process, i: u8) -> Option<Change>
-    ensures { result ≡ change_of (scan x i (state_of y.place) (ltb y.transaction.0 x.transaction.0)) }
+fn scan(x: &Process, y: &Process, i: u8) -> Option<Change>
+    ensures { result ≡ change_of (scan x.now i (state_of y.now.place) (ltb y.now.transaction.0 x.now.transaction.0)) }
 {
     match y.place.state() {
         State::Running | State::Sleeping => scan_from(x, i as usize + 1),
@@ -56,8 +56,8 @@ fn scan(x: Process, y: Process, i: u8) -> Option<Change>
 }
 
 // Rules 7 and 8. Process p is at T at guard i, which names q.
-fn try_guard(p: u8, x: Process, q: u8, y: Process, i: u8) -> Option<Change>
-    ensures { result ≡ change_of (try x i y y.accepting (kept_match p (own_guard x i) q (posted_list y))) }
+fn try_guard(p: u8, x: &Process, q: u8, y: &Process, i: u8) -> Option<Change>
+    ensures { result ≡ change_of (try x.now i y.now y.now.accepting (kept_match p (own_guard x.now i) q (posted_list y.now))) }
 {
     if !y.accepting {
         return scan_from(x, i as usize + 1);
@@ -76,8 +76,8 @@ fn try_guard(p: u8, x: Process, q: u8, y: Process, i: u8) -> Option<Change>
 
 // Rule 9.
 #[tactic(auto, unfolding(crate::specs::Rules::hand_over))]
-fn hand_over(x: Process, y: Process, i: u8, j: u8) -> Option<Change>
-    ensures { result ≡ change_of (hand_over x i j y) }
+fn hand_over(x: &Process, y: &Process, i: u8, j: u8) -> Option<Change>
+    ensures { result ≡ change_of (hand_over x.now i j y.now) }
 {
     let own = guard_at(x.own_list(), i).action;
     let kept = guard_at(y.posted_list(), j).action;
@@ -91,8 +91,8 @@ fn hand_over(x: Process, y: Process, i: u8, j: u8) -> Option<Change>
 }
 
 // Rule 10.
-fn post(x: Process) -> Option<Change>
-    ensures { result ≡ change_of (Own (at_place (with_own_posted x) Place.Opening)) }
+fn post(x: &Process) -> Option<Change>
+    ensures { result ≡ change_of (Own (at_place (with_own_posted x.now) Place.Opening)) }
 {
     // a variable, since no proof is made for an array field that goes straight into another
     let altlist = x.guards;
@@ -100,38 +100,38 @@ fn post(x: Process) -> Option<Change>
         place: Place::Opening,
         altcount: x.count,
         altlist,
-        ..x
+        ..*x
     };
     go(own)
 }
 
 // Rule 11.
-fn start_accepting(x: Process) -> Option<Change>
-    ensures { result ≡ change_of (Own (at_place (with_accepting x true) Place.Showing)) }
+fn start_accepting(x: &Process) -> Option<Change>
+    ensures { result ≡ change_of (Own (at_place (with_accepting x.now true) Place.Showing)) }
 {
     go(Process {
         place: Place::Showing,
         accepting: true,
-        ..x
+        ..*x
     })
 }
 
 // Rules 13 and 14.
-fn absorb(x: Process) -> Option<Change>
-    ensures { result ≡ change_of (absorb x x.signal) }
+fn absorb(x: &Process) -> Option<Change>
+    ensures { result ≡ change_of (absorb x.now x.now.signal) }
 {
     let (j, m) = x.signal?;
     go(Process {
         place: Place::Met(j, m),
         signal: None,
-        ..x
+        ..*x
     })
 }
 
 // All fifteen, for process p with record x, in a table with naps of `nap` own steps; q with record y is its partner at A, T and C.
 #[tactic(auto, unfolding(crate::specs::Rules::rule))]
-pub fn rule(nap: u8, p: u8, x: Process, q: u8, y: Process) -> Option<Change>
-    ensures { result ≡ change_of (rule nap p x q y) }
+pub fn rule(nap: u8, p: u8, x: &Process, q: u8, y: &Process) -> Option<Change>
+    ensures { result ≡ change_of (rule nap p x.now q y.now) }
 {
     match x.place {
         Place::Entering => scan_from(x, 0),

@@ -15,11 +15,11 @@ use Rattle.process.proofs.PlaceCases.{both-carried}
 use Rattle.process.proofs.OnlyTold.{OnlyTold, rule-only-told}
 use Rattle.process.specs.declared.Told.{Told}
 use Rattle.rendezvous.specs.declared.Act.{Act}
-use Rattle.rendezvous.specs.Types.{Place, Process, ProcessTable, Refusal, Answer, Reply}
+use Rattle.rendezvous.specs.Types.{Place, Process, Head, ProcessTable, Refusal, Answer, Reply}
 use Rattle.rendezvous.specs.Table.{most_processes, process, put, with_next}
 use Rattle.rendezvous.specs.WellFormed.{well_formed}
 use Rattle.rendezvous.specs.Forms.{Form, form_end}
-use Rattle.rendezvous.specs.Refusals.{require, process_tests, process_verdict, list_verdict, state_verdict, offer_verdict}
+use Rattle.rendezvous.specs.Refusals.{require, process_tests, process_verdict, list_verdict, state_verdict, offer_verdict, withdraw_tests}
 use Rattle.rendezvous.specs.Refusals.{withdraw_verdict}
 use Rattle.rendezvous.specs.Calls.{if_accepted, entering, offered, offer_list, effect_on, applied, stepped, step, collected, collect, commit_came_first}
 use Rattle.rendezvous.specs.Calls.{withdrawn_or_late, withdraw}
@@ -103,8 +103,21 @@ at_places t form told p q i j rest act same = go (form_end form t.head) (sym tol
     go true e false f = nothing-done t i j (Err Refusal.NoSuchProcess) ∙ sym (nothing-done t p q (Err Refusal.NoSuchProcess))
     go false e b f = nothing-done t i j (Err Refusal.NotWellFormed) ∙ sym (nothing-done t p q (Err Refusal.NotWellFormed))
 
+-- a withdrawal tells no partner
+if-untold : (v : Result ⊤ Refusal) (h : Head) (x : Process) (act : Act) → act.told ≡ None → (unless_refused v h x act).told ≡ None
+if-untold (Ok tt) h x act e = e
+if-untold (Err r) h x act e = refl
+
+withdrawn-untold : (h : Head) (x : Process) (first : Bool) → (withdrawn_or_late_act h x first).told ≡ None
+withdrawn-untold h x true = refl
+withdrawn-untold h x false = refl
+
 -- from the record x that the code has read: the act, carried out where it was read, is the call
 module _ (t : ProcessTable) (p : ℕ) (form : Form) (told : FormOf t form) (x : Process) (own : x ≡ process t (p % most_processes)) (act : Act) where
+  -- the own record and the head alone, as a withdrawal writes them
+  abbrev written : Reply
+  written = record { answer = act.answer; table = record { head = act.head; processes = set t.processes (p % most_processes) act.own } }
+
   pub offer-done : (list : GuardList) (j : ℕ) → act ≡ offer_act form t.head p x list → done t (p % most_processes) j act ≡ offer_list t p list
   unfolding offer_act
   offer-done list j e =
@@ -133,3 +146,7 @@ module _ (t : ProcessTable) (p : ℕ) (form : Form) (told : FormOf t form) (x : 
       rw (e, own)
       (at_places t form told p j (p % most_processes) j (λ x. require (not (is_at "IM" x.place)) Refusal.NothingToWithdraw (Ok tt)) (λ x y. withdrawn_or_late_act t.head x (commit_came_first x.place x.accepting)) (λ a. ((inside t p a).own, refl))
       ∙ (acts-are-calls t form told).withdraws p j)
+
+  pub withdraw-written : act ≡ withdraw_act form t.head p x → written ≡ withdraw t p
+  unfolding withdraw_act
+  withdraw-written e = alone-carried t t (p % most_processes) 0 act (rw e (if-untold (withdraw_tests (form_end form t.head) t.head.n p x.place) t.head x _ (withdrawn-untold t.head x (commit_came_first x.place x.accepting)))) refl ∙ withdraw-done 0 e

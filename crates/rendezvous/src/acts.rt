@@ -25,24 +25,24 @@ pub fn alone(answer: Result<Answer, Refusal>, head: Head, own: Process) -> Act
 
 // The record of a process whose offer is accepted.
 #[tactic(auto, unfolding(crate::specs::Calls::entering))]
-fn entered(x: Process, ticket: TransactionId, list: GuardList) -> Process
+fn entered(x: &Process, ticket: TransactionId, list: GuardList) -> Process
     requires { list.count ≤ 8 }
-    ensures { result ≡ entering x ticket list }
+    ensures { result ≡ entering x.now ticket list }
 {
     Process {
         place: Place::Entering,
         transaction: ticket,
         count: list.count as u8,
         guards: blanked(list.guards, list.count),
-        ..x
+        ..*x
     }
 }
 
-pub fn offer_act(form: Form, head: Head, p: u8, x: Process, list: GuardList) -> Act
-    ensures { result ≡ offer_act form head p x list }
+pub fn offer_act(form: Form, head: Head, p: u8, x: &Process, list: GuardList) -> Act
+    ensures { result ≡ offer_act form head p x.now list }
 {
     match offer_verdict(form_end(form, head), head, p, list, x.place) {
-        Err(refusal) => alone(Err(refusal), head, x),
+        Err(refusal) => alone(Err(refusal), head, *x),
         Ok(()) => {
             let ticket = head.next;
             let following = TransactionId(ticket.0 + 1);
@@ -70,13 +70,13 @@ fn head_after(head: Head, told: bool, place: Place) -> Head
     }
 }
 
-pub fn step_act(form: Form, head: Head, p: u8, x: Process, q: u8, y: Process) -> Act
-    ensures { result ≡ step_act form head p x q y }
+pub fn step_act(form: Form, head: Head, p: u8, x: &Process, q: u8, y: &Process) -> Act
+    ensures { result ≡ step_act form head p x.now q y.now }
 {
     match process_verdict(form_end(form, head), head.n, p) {
-        Err(refusal) => alone(Err(refusal), head, x),
+        Err(refusal) => alone(Err(refusal), head, *x),
         Ok(()) => match rule(head.nap, p, x, q, y) {
-            None => alone(Ok(Answer::Unchanged), head, x),
+            None => alone(Ok(Answer::Unchanged), head, *x),
             Some(change) => Act {
                 answer: Ok(Answer::Moved(change.own.place)),
                 head: head_after(head, change.told.is_some(), change.own.place),
@@ -87,13 +87,13 @@ pub fn step_act(form: Form, head: Head, p: u8, x: Process, q: u8, y: Process) ->
     }
 }
 
-pub fn collect_act(form: Form, head: Head, p: u8, x: Process) -> Act
-    ensures { result ≡ collect_act form head p x }
+pub fn collect_act(form: Form, head: Head, p: u8, x: &Process) -> Act
+    ensures { result ≡ collect_act form head p x.now }
 {
     match process_verdict(form_end(form, head), head.n, p) {
-        Err(refusal) => alone(Err(refusal), head, x),
+        Err(refusal) => alone(Err(refusal), head, *x),
         Ok(()) => match x.place.outcome() {
-            None => alone(Err(Refusal::NotMet), head, x),
+            None => alone(Err(Refusal::NotMet), head, *x),
             Some((index, m)) => {
                 let g = guard_at(x.own_list(), index);
                 let answer = Ok(Answer::Collected(index, g.partner, m));
@@ -115,24 +115,24 @@ fn commit_came_first(place: Place, accepting: bool) -> bool
 }
 
 // The record of a process whose offer is withdrawn.
-fn given_up(x: Process) -> Process
-    ensures { result ≡ given_up x }
+fn given_up(x: &Process) -> Process
+    ensures { result ≡ given_up x.now }
 {
     x.told(false, x.signal).at_place(Place::Idle)
 }
 
-pub fn withdraw_act(form: Form, head: Head, p: u8, x: Process) -> Act
-    ensures { result ≡ withdraw_act form head p x }
+pub fn withdraw_act(form: Form, head: Head, p: u8, x: &Process) -> Act
+    ensures { result ≡ withdraw_act form head p x.now }
 {
     match withdraw_verdict(form_end(form, head), head.n, p, x.place) {
-        Err(refusal) => alone(Err(refusal), head, x),
+        Err(refusal) => alone(Err(refusal), head, *x),
         Ok(()) => {
             let after = Head {
                 withdrawn: head.withdrawn + 1,
                 ..head
             };
             if commit_came_first(x.place, x.accepting) {
-                alone(Ok(Answer::TooLate), head, x)
+                alone(Ok(Answer::TooLate), head, *x)
             } else {
                 alone(Ok(Answer::Withdrawn), after, given_up(x))
             }

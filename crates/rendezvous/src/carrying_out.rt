@@ -7,7 +7,7 @@ use crate::{Act, Answer, MOST_PROCESSES, ProcessTable, Refusal};
 use process::Process;
 
 // Where the record of process p stands. A process that a table has no record of is refused, whatever record is read for it.
-fn place_of(p: u8) -> usize
+pub fn place_of(p: u8) -> usize
     ensures { result ≡ p % most_processes }
 {
     (p % MOST_PROCESSES) as usize

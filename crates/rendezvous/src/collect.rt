@@ -10,7 +10,7 @@ impl ProcessTable {
     pub fn collect(mut self, p: u8) -> Reply
         ensures { result ≡ collect self p }
     {
-        let act = collect_act(self.form(), self.head, p, *self.record(p));
+        let act = collect_act(self.form(), self.head, p, self.record(p));
         let answer = self.carry_out(p, p, act);
         Reply {
             answer,

@@ -11,7 +11,7 @@ impl ProcessTable {
     pub fn offer_list(mut self, p: u8, list: GuardList) -> Reply
         ensures { result ≡ offer_list self p list }
     {
-        let act = offer_act(self.form(), self.head, p, *self.record(p), list);
+        let act = offer_act(self.form(), self.head, p, self.record(p), list);
         let answer = self.carry_out(p, p, act);
         Reply {
             answer,

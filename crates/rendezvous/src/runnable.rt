@@ -25,7 +25,7 @@ impl ProcessTable {
             for p in (0..self.head.n).rev() {
                 let x = self.record(p);
                 let y = self.record(x.partner());
-                set = set * 2 + lowest(would_change(*x, *y));
+                set = set * 2 + lowest(would_change(x, y));
             }
             Ok(Answer::Runnable(set))
         } else {

@@ -10,9 +10,9 @@ impl ProcessTable {
     pub fn step(mut self, p: u8) -> Reply
         ensures { result ≡ step self p }
     {
-        let x = *self.record(p);
+        let x = self.record(p);
         let q = x.partner();
-        let act = step_act(self.form(), self.head, p, x, q, *self.record(q));
+        let act = step_act(self.form(), self.head, p, x, q, self.record(q));
         let answer = self.carry_out(p, q, act);
         Reply {
             answer,

@@ -30,15 +30,15 @@ pub fn form_start(head: Head) -> Form
 }
 
 // How many open offers a process has.
-fn open_offers(x: Process) -> u32
-    ensures { result ≡ cond (is_open x) 1 0 }
+fn open_offers(x: &Process) -> u32
+    ensures { result ≡ cond (is_open x.now) 1 0 }
 {
     u32::from(x.place.is_open(x.accepting))
 }
 
 // It goes on with process k; the process that its guard names at C has posted so many. (Where it names none below n, it does not fit, whatever is read.)
-pub fn form_more(form: Form, head: Head, k: u8, x: Process, posted: u8) -> Form
-    ensures { result ≡ form_more form head k x posted }
+pub fn form_more(form: Form, head: Head, k: u8, x: &Process, posted: u8) -> Form
+    ensures { result ≡ form_more form head k x.now posted }
 {
     let left = form?;
     if !process_fits(head.n, head.nap, k, x, posted) {
@@ -74,7 +74,7 @@ impl ProcessTable {
         for k in 0..self.head.n {
             let x = self.record(k);
             let posted = self.record(x.committed_to()).altcount;
-            form = form_more(form, self.head, k, *x, posted);
+            form = form_more(form, self.head, k, x, posted);
         }
         form
     }

@@ -19,8 +19,8 @@ fn process_of(call: Call) -> u8
 }
 
 // A call's act, from what was read of the table.
-fn line_act(call: Call, form: Form, head: Head, x: Process, q: u8, y: Process) -> Act
-    ensures { result ≡ line_act call form head x q y }
+fn line_act(call: Call, form: Form, head: Head, x: &Process, q: u8, y: &Process) -> Act
+    ensures { result ≡ line_act call form head x.now q y.now }
 {
     match call {
         Call::Offer { p, list } => offer_act(form, head, p, x, list),
@@ -35,9 +35,9 @@ fn called(table: &mut ProcessTable, call: Call) -> Result<Answer, Refusal>
     ensures { record { answer = result; table = table.new } ≡ called_by table.old call }
 {
     let p = process_of(call);
-    let x = *table.record(p);
+    let x = table.record(p);
     let q = x.partner();
-    let act = line_act(call, table.form(), table.head, x, q, *table.record(q));
+    let act = line_act(call, table.form(), table.head, x, q, table.record(q));
     table.carry_out(p, q, act)
 }
 

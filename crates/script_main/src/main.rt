@@ -13,7 +13,7 @@ use std::io;
 use std::io::Stdout;
 use text::Text;
 
-// Writes what the end of the input prints, where it has ended, and nothing else.
+// Writes what the end of the input prints to the session that reading to it has led to, and nothing else.
 fn write_finished(
     read: Result<(), Failure>,
     session: &Session,
@@ -21,6 +21,7 @@ fn write_finished(
     stdout: Stdout,
 ) -> io::Result<()>
     requires ended { IsOk read }
+    requires read_to { AllPasses true start (state_held session.now) read }
     requires text_value { shown text ≡ finished (state_held session.now) }
 {
     passes::write_text(text, stdout)

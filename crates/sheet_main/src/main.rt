@@ -14,7 +14,7 @@ use std::io;
 use std::io::Stdout;
 use text::Text;
 
-// Writes the sheet, where the input has ended, and nothing else.
+// Writes the sheet of the session that reading to the end of the input has led to, and nothing else.
 fn write_sheet(
     read: Result<(), Failure>,
     session: &Session,
@@ -22,6 +22,7 @@ fn write_sheet(
     stdout: Stdout,
 ) -> io::Result<()>
     requires ended { IsOk read }
+    requires read_to { AllPasses false start (state_held session.now) read }
     requires text_value { shown text ≡ sheet_text (state_held session.now).table }
 {
     passes::write_text(text, stdout)

@@ -1,11 +1,9 @@
 -- An array made by calls of a closure at each index, where the closure stays as it was.
-use Prim.Native.Nat.{ℕ, zero, suc, ◌+◌, ◌*◌, ◌<◌}
+use Prim.Native.Nat.{ℕ, zero, suc, ◌+◌, ◌<◌}
 use mathlib.Core.Path.{◌≡◌, ◌∙◌}
 use mathlib.Core.List.{List}
 use native.Mathlib.Omega.{arith}
-use lib.ListN.{get_or, drop}
-use Rattle.wire.specs.Reading.{each_of}
-use Rattle.wire.proofs.Lists.{each-is}
+use lib.ListN.{get_or}
 use Rattle.std.specs.Array.{IsFromFnResultFrom, IsFromFnResult}
 use denote.Param.Members.{Mut, Called}
 
@@ -21,7 +19,3 @@ module _ {F B : Type 0} (g : Mut F (ℕ × Unit {0}) B) (Same : F → Type 0) (v
 module _ {F B : Type 0} {g : Mut F (ℕ × Unit {0}) B} {f : F} {ys : List B} {n : ℕ} (r : IsFromFnResult g f ys n) (Same : F → Type 0) where
   pub made : (value_at : ℕ → B) → Same f → Keeps g Same value_at → (k : ℕ) (d : B) → k < n → get_or ys k d ≡ value_at k
   made value_at s keeps k d h = made_from g Same value_at keeps n f ys 0 k k d s r.each h (omega arith)
-
-  -- .. by reading what stands at each place
-  pub made-each : (read : List ℕ → B) (size : ℕ) (bytes : List ℕ) → Same f → Keeps g Same (λ k. read (drop (size * k) bytes)) → B → ys ≡ each_of read size n bytes
-  made-each read size bytes s keeps d = each-is read size n bytes ys d r.long (λ k h. made (λ k. read (drop (size * k) bytes)) s keeps k d h)

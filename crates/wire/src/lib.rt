@@ -7,8 +7,8 @@ ghost use Rattle.wire.specs.Layout.{Lengths, table_length};
 ghost use Rattle.wire.specs.Writing.{bytes_of, onto};
 ghost use Rattle.wire.specs.Claims.{Faithful, ReadsBack, GuardAsBytes, HeadAsBytes, NapAsBytes};
 
+use process::fresh_process;
 use rendezvous::ProcessTable;
-use std::array;
 
 mod bytes;
 mod layout;
@@ -26,11 +26,13 @@ use writing::{head_bytes, process_bytes};
 pub fn decode(bytes: &[u8]) -> ProcessTable
     ensures { result ≡ table_of bytes.now }
 {
+    let mut processes = [fresh_process(); layout::RECORDS];
+    for (p, x) in processes.iter_mut().enumerate() {
+        *x = process_of(from(bytes, layout::HEAD_BYTES + layout::RECORD_BYTES * p));
+    }
     ProcessTable {
         head: head_of(bytes),
-        processes: array::from_fn(|p| {
-            process_of(from(bytes, layout::HEAD_BYTES + layout::RECORD_BYTES * p))
-        }),
+        processes,
     }
 }
 

@@ -5,10 +5,9 @@ ghost use Rattle.wire.specs.Reading.{message_of, action_of, guard_of, place_of, 
 
 use crate::bytes::{byte_at, from, long_of, word_of};
 use crate::layout;
-use alternative::{Action, Guard, GuardList, Message, blanked, float_of};
+use alternative::{Action, Guard, GuardList, Message, blank_guard, blanked, float_of};
 use process::{Place, Process, Signal, TransactionId};
 use rendezvous::Head;
-use std::array;
 
 #[tactic(auto, unfolding(crate::specs::Reading::message_of))]
 pub fn message_of(bytes: &[u8]) -> Message
@@ -85,7 +84,11 @@ fn signal_of(bytes: &[u8]) -> Signal
 fn guards_of(bytes: &[u8]) -> [Guard; layout::SLOTS]
     ensures { result ≡ guards_of bytes.now }
 {
-    array::from_fn(|k| guard_of(from(bytes, layout::GUARD_BYTES * k)))
+    let mut guards = [blank_guard(); layout::SLOTS];
+    for (k, g) in guards.iter_mut().enumerate() {
+        *g = guard_of(from(bytes, layout::GUARD_BYTES * k));
+    }
+    guards
 }
 
 // The guards of an offer as a list by value: how many there are bytes for, and the first eight.

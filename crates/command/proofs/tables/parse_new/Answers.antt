@@ -1,4 +1,4 @@
-use Rattle.std.proofs.Common.{arith}
+use Rattle.std.proofs.Common.{rules, arith}
 use Rattle.std.proofs.lemmas.Grind.{common_steps}
 use Rattle.command.specs.Commands.{new_in}
 use Rattle.command.proofs.Cuts.{fields-cut}
@@ -14,4 +14,4 @@ returns-in_err-nap c = rw (fields-cut c.args.s.now) (grind (arith, common_steps)
 
 pub returns : goal.returns
 unfolding new_in
-returns c = rw (fields-cut c.args.s.now) (grind (arith, common_steps))
+returns c = rw (fields-cut c.args.s.now) (search rules)

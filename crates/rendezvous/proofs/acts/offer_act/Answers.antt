@@ -6,11 +6,11 @@ use Rattle.rendezvous.proofs.acts.offer_act.Goals as goal
 pub overflow_add-following : goal.overflow_add-following
 overflow_add-following c =
     let a = c.args in
-    let h = tests-passed c.form_end.result a.head a.p a.list a.x.place _ c.offer_verdict.ensures c.in-Ok.is in
+    let h = tests-passed c.form_end.result a.head a.p a.list a.x.now.place _ c.offer_verdict.ensures c.in-Ok.is in
     omega (arith, h.left)
 
 pub entered-requires : goal.entered-requires
-entered-requires c = let a = c.args in (tests-passed c.form_end.result a.head a.p a.list a.x.place _ c.offer_verdict.ensures c.in-Ok.is).most
+entered-requires c = let a = c.args in (tests-passed c.form_end.result a.head a.p a.list a.x.now.place _ c.offer_verdict.ensures c.in-Ok.is).most
 
 pub returns-in-Err : goal.returns-in-Err
 unfolding offer_act
