@@ -8,53 +8,36 @@ mod tables;
 
 use answers::added;
 use plans::{Plan, Planned};
-use rendezvous::Answer;
+use rendezvous::{Answer, Reply};
 use tables::{offered, start};
 
 // Makes `calls` calls by a plan, from a table of n processes, where those past 1 wait with lists of `load` guards. An answer is added
 // at the next turn: where it is told apart right after the call, the compiler parts refused calls from others there, and copies the
-// table once more. Each call takes its own reply apart: one reply for all of them would be more copies. The plan is a number, since C calls this.
+// table once more. The order of the calls is the order of their tables in memory, and decides how fast these are copied
+// (docs/DESIGN-PASS.md). The plan is a number, since C calls this.
 #[unsafe(no_mangle)]
 pub extern "C" fn meter_calls(plan: u8, n: u8, load: u8, calls: u64) -> u64 {
     let plan = Plan::from(plan);
-    let mut t = start(plan, n, load);
-    let first = t.processes[0];
-    let mut answer = Ok(Answer::Made);
+    let mut said = Reply {
+        answer: Ok(Answer::Made),
+        table: start(plan, n, load),
+    };
+    let first = said.table.processes[0];
     let mut sum: u64 = 0;
     let mut turn: u8 = 0;
     for _ in 0..calls {
-        sum = added(sum, answer);
+        sum = added(sum, said.answer);
         match plan.next_call(turn) {
-            Planned::Offer(p) => {
-                let reply = t.offer_list(p, offered(p));
-                answer = reply.answer;
-                t = reply.table;
-            }
-            Planned::Step(p) => {
-                let reply = t.step(p);
-                answer = reply.answer;
-                t = reply.table;
-            }
-            Planned::Collect(p) => {
-                let reply = t.collect(p);
-                answer = reply.answer;
-                t = reply.table;
-            }
-            Planned::Withdraw(p) => {
-                let reply = t.withdraw(p);
-                answer = reply.answer;
-                t = reply.table;
-            }
-            Planned::Runnable => {
-                let reply = t.runnable();
-                answer = reply.answer;
-                t = reply.table;
-            }
+            Planned::Offer(p) => said = said.table.offer_list(p, offered(p)),
+            Planned::Step(p) => said = said.table.step(p),
+            Planned::Collect(p) => said = said.table.collect(p),
+            Planned::Withdraw(p) => said = said.table.withdraw(p),
+            Planned::Runnable => said = said.table.runnable(),
         }
         if plan.resets() {
-            t.processes[0] = first;
+            said.table.processes[0] = first;
         }
         turn = (turn + 1) % 14;
     }
-    added(sum, answer)
+    added(sum, said.answer)
 }

@@ -73,17 +73,17 @@ fn head_after(head: Head, told: bool, place: Place) -> Head
 pub fn step_act(form: Form, head: Head, p: u8, x: &Process, q: u8, y: &Process) -> Act
     ensures { result ≡ step_act form head p x.now q y.now }
 {
-    match process_verdict(form_end(form, head), head.n, p) {
-        Err(refusal) => alone(Err(refusal), head, *x),
-        Ok(()) => match rule(head.nap, p, x, q, y) {
-            None => alone(Ok(Answer::Unchanged), head, *x),
-            Some(change) => Act {
-                answer: Ok(Answer::Moved(change.own.place)),
-                head: head_after(head, change.told.is_some(), change.own.place),
-                own: change.own,
-                told: change.told,
-            },
-        },
+    if let Err(refusal) = process_verdict(form_end(form, head), head.n, p) {
+        return alone(Err(refusal), head, *x);
+    }
+    let Some(change) = rule(head.nap, p, x, q, y) else {
+        return alone(Ok(Answer::Unchanged), head, *x);
+    };
+    Act {
+        answer: Ok(Answer::Moved(change.own.place)),
+        head: head_after(head, change.told.is_some(), change.own.place),
+        own: change.own,
+        told: change.told,
     }
 }
 

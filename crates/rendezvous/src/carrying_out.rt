@@ -21,8 +21,8 @@ impl ProcessTable {
     }
 
     // Carries out an act of process p, whose partner is q, and gives its answer. Who tells no partner may name any.
-    pub fn carry_out(&mut self, p: u8, q: u8, act: Act) -> Result<Answer, Refusal>
-        ensures { record { answer = result; table = self.new } ≡ done self.old (p % most_processes) (q % most_processes) act }
+    pub fn carry_out(&mut self, p: u8, q: u8, act: &Act) -> Result<Answer, Refusal>
+        ensures { record { answer = result; table = self.new } ≡ done self.old (p % most_processes) (q % most_processes) act.now }
     {
         if let Some(told) = act.told {
             let partner = self.processes[place_of(q)];

@@ -11,7 +11,7 @@ impl ProcessTable {
         ensures { result ≡ collect self p }
     {
         let act = collect_act(self.form(), self.head, p, self.record(p));
-        let answer = self.carry_out(p, p, act);
+        let answer = self.carry_out(p, p, &act);
         Reply {
             answer,
             table: self,

@@ -12,7 +12,7 @@ impl ProcessTable {
         ensures { result ≡ offer_list self p list }
     {
         let act = offer_act(self.form(), self.head, p, self.record(p), list);
-        let answer = self.carry_out(p, p, act);
+        let answer = self.carry_out(p, p, &act);
         Reply {
             answer,
             table: self,

@@ -13,7 +13,7 @@ impl ProcessTable {
         let x = self.record(p);
         let q = x.partner();
         let act = step_act(self.form(), self.head, p, x, q, self.record(q));
-        let answer = self.carry_out(p, q, act);
+        let answer = self.carry_out(p, q, &act);
         Reply {
             answer,
             table: self,

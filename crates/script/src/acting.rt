@@ -1,6 +1,7 @@
 // What a line's command does to the table. The table is as long as most of a line's work, so it is changed in its place and not copied.
 ghost use Rattle.std.specs.Prelude.{◌≡◌, Some, cond, is_err};
 ghost use Rattle.rendezvous.specs.Calls.{create};
+ghost use Rattle.rendezvous.specs.Movers.{runnable};
 ghost use Rattle.script.specs.Private.{answer_of, called_by, goes_on_with, line_act, process_of, reply_in_code};
 
 use command::{Call, Command};
@@ -38,7 +39,7 @@ fn called(table: &mut ProcessTable, call: Call) -> Result<Answer, Refusal>
     let x = table.record(p);
     let q = x.partner();
     let act = line_act(call, table.form(), table.head, x, q, table.record(q));
-    table.carry_out(p, q, act)
+    table.carry_out(p, q, &act)
 }
 
 // `n`: a refused one keeps the old table.
@@ -53,6 +54,14 @@ fn created(table: &mut Option<ProcessTable>, n: u8, nap: u8) -> Result<Answer, R
     reply.answer
 }
 
+// `m`, kept apart from `answer`, since it makes room for the table that `runnable` hands back.
+#[inline(never)]
+fn movers(table: &ProcessTable) -> Result<Answer, Refusal>
+    ensures { result ≡ (runnable table.now).answer }
+{
+    table.runnable().answer
+}
+
 // The answer to a command, and the table with which reading goes on; before an accepted `n` all but `n` have none.
 pub fn answer(table: &mut Option<ProcessTable>, command: Command) -> Option<Result<Answer, Refusal>>
     ensures answer { result ≡ answer_of (reply_in_code table.old command) }
@@ -61,6 +70,6 @@ pub fn answer(table: &mut Option<ProcessTable>, command: Command) -> Option<Resu
     match command {
         Command::New { n, nap } => Some(created(table, n, nap)),
         Command::Do(call) => Some(called(table.as_mut()?, call)),
-        Command::Movers => Some(table.as_ref()?.runnable().answer),
+        Command::Movers => Some(movers(table.as_ref()?)),
     }
 }

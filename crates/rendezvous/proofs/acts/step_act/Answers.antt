@@ -5,10 +5,10 @@ pub returns-in-Err : goal.returns-in-Err
 unfolding step_act
 returns-in-Err c = rw (← c.form_end.ensures, ← c.process_verdict.ensures, c.in-Err.is) c.alone.ensures
 
-pub returns-in-None : goal.returns-in-None
+pub returns-in_default-rule : goal.returns-in_default-rule
 unfolding step_act
-returns-in-None c = rw (← c.form_end.ensures, ← c.process_verdict.ensures, c.in-Ok.is, ← c.rule.ensures, c.in-None.is) c.alone-in-None.ensures
+returns-in_default-rule c = rw (← c.form_end.ensures, ← c.process_verdict.ensures, c.in_default.is, ← c.rule.ensures, c.in_default-rule.is) c.alone-in_default-rule.ensures
 
-pub returns-in-Some : goal.returns-in-Some
+pub returns : goal.returns
 unfolding step_act
-returns-in-Some c = rw (← c.form_end.ensures, ← c.process_verdict.ensures, c.in-Ok.is, ← c.rule.ensures, c.in-Some.is, c.head_after.ensures, c.is_some.ensures)
+returns c = rw (← c.form_end.ensures, ← c.process_verdict.ensures, c.in_default.is, ← c.rule.ensures, c.in-Some.is, c.head_after.ensures, c.is_some.ensures)
