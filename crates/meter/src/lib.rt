@@ -13,7 +13,7 @@ use tables::{offered, start};
 
 // Makes `calls` calls by a plan, from a table of n processes, where those past 1 wait with lists of `load` guards. An answer is added
 // at the next turn: where it is told apart right after the call, the compiler parts refused calls from others there, and copies the
-// table once more. The order of the calls is the order of their tables in memory, and decides how fast these are copied
+// table once more. The order of the arms decides where in memory a reply's table lies, and so how fast it is copied
 // (docs/DESIGN-PASS.md). The plan is a number, since C calls this.
 #[unsafe(no_mangle)]
 pub extern "C" fn meter_calls(plan: u8, n: u8, load: u8, calls: u64) -> u64 {
